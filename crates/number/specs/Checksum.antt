@@ -1,0 +1,11 @@
+-- The checksum of a text: "the bytes ... are summed, and the sum is negated modulo 256".
+-- Of nothing it is 0.
+use mathlib.Core.List.{List, [], _∷_}
+use Prim.Native.Nat.{ℕ, _+_, _-_, _%_}
+
+unfoldable pub total : List ℕ → ℕ
+total [] = 0
+total (c ∷ s) = c + total s
+
+unfoldable pub checksum : List ℕ → ℕ
+checksum s = (256 - total s % 256) % 256

@@ -1,0 +1,51 @@
+-- The words of a content, as a function on the list of its bytes; and the first word from a place on, as the code finds it.
+use mathlib.Core.Bool.{Bool, true, false, cond, not}
+use mathlib.Core.List.{List, [], _∷_}
+use Prim.Native.Nat.{ℕ, suc, _+_}
+use lib.Dec.{eqb, ltb}
+use lib.ListN.{length, drop}
+use Rattle.laws.specs.Text.{space}
+use Rattle.laws.specs.Lists.{span}
+use Rattle.words.specs.declared.Next.{Next}
+use Rattle.words.specs.declared.Next.the-variants.{Word, End}
+
+unfoldable pub isSpace : ℕ → Bool
+isSpace c = eqb c space
+
+unfoldable pub noSpace : ℕ → Bool
+noSpace c = not (eqb c space)
+
+abbrev pub begins : List ℕ → Bool
+begins [] = false
+begins (c ∷ s) = noSpace c
+
+unfoldable pub grow : ℕ → List (List ℕ) → List (List ℕ)
+grow c [] = (c ∷ []) ∷ []
+grow c (w ∷ ws) = (c ∷ w) ∷ ws
+
+-- a space is passed over; another byte is put before the word that begins behind it, or is a word alone
+unfoldable pub cut : List ℕ → List (List ℕ)
+cut [] = []
+cut (c ∷ s) = cond (isSpace c) (cut s) (cond (begins s) (grow c (cut s)) ((c ∷ []) ∷ cut s))
+
+unfoldable pub nextOf : List ℕ → ℕ → Next
+nextOf s at =
+    cond (ltb (at + span isSpace (drop at s)) (length s))
+    (Word (at + span isSpace (drop at s)) (at + span isSpace (drop at s) + span noSpace (drop (at + span isSpace (drop at s)) s)))
+    End
+
+unfoldable pub headWord : List (List ℕ) → List ℕ
+headWord [] = []
+headWord (w ∷ ws) = w
+
+unfoldable pub tailWords : List (List ℕ) → List (List ℕ)
+tailWords [] = []
+tailWords (w ∷ ws) = ws
+
+-- behind the first word from at on, or at itself
+abbrev behind : ℕ → Next → ℕ
+behind at End = at
+behind at (Word a e) = e
+
+unfoldable pub pastOf : List ℕ → ℕ → ℕ
+pastOf s at = behind at (nextOf s at)

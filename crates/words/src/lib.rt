@@ -1,0 +1,114 @@
+// Finds the words of a content: runs of bytes other than the space.
+ghost use mathlib.Core.Path.{_≡_};
+ghost use Prim.Native.Nat.{_+_};
+ghost use lib.ListN.{drop};
+ghost use Rattle.laws.specs.Text.{same};
+ghost use Rattle.laws.specs.Lists.{span};
+ghost use Rattle.words.specs.Cutting.{isSpace, noSpace, nextOf, cut, headWord, tailWords, pastOf};
+ghost use Rattle.words.specs.Find.{index};
+
+pub enum Next {
+    Word { start: usize, end: usize },
+    End,
+}
+
+// The first place from at on that has no space.
+pub fn skip_spaces(s: &[u8], at: usize) -> usize
+    ensures { λ r. ⌜ r ≡ at + span isSpace (drop at (now (s .entry))) ⌝ }
+{
+    let mut i = at;
+    while i < s.len() {
+        if s[i] != 32 {
+            return i;
+        }
+        i += 1;
+    }
+    i
+}
+
+// The first place from at on that has a space, or the end.
+pub fn word_end(s: &[u8], at: usize) -> usize
+    ensures { λ r. ⌜ r ≡ at + span noSpace (drop at (now (s .entry))) ⌝ }
+{
+    let mut i = at;
+    while i < s.len() {
+        if s[i] == 32 {
+            return i;
+        }
+        i += 1;
+    }
+    i
+}
+
+// The first word from at on.
+pub fn next_word(s: &[u8], at: usize) -> Next
+    ensures { λ r. ⌜ r ≡ nextOf (now (s .entry)) at ⌝ }
+{
+    let start = skip_spaces(s, at);
+    if s.len() <= start {
+        return Next::End;
+    }
+    let end = word_end(s, start);
+    Next::Word { start, end }
+}
+
+// The first word from at on, or nothing where there is none.
+pub fn first_word(s: &[u8], at: usize) -> &[u8]
+    ensures { λ r. ⌜ now r ≡ headWord (cut (drop at (now (s .entry)))) ⌝ }
+{
+    match next_word(s, at) {
+        Next::End => &s[..0],
+        Next::Word { start, end } => &s[start..end],
+    }
+}
+
+// The place behind the first word from at on: the words from there on are the others.
+pub fn past_word(s: &[u8], at: usize) -> usize
+    ensures place { λ r. ⌜ r ≡ pastOf (now (s .entry)) at ⌝ }
+    ensures others { λ r. ⌜ cut (drop r (now (s .entry))) ≡ tailWords (cut (drop at (now (s .entry)))) ⌝ }
+{
+    match next_word(s, at) {
+        Next::End => at,
+        Next::Word { start: _, end } => end,
+    }
+}
+
+// Do a and b hold the same bytes?
+pub fn same_bytes(a: &[u8], b: &[u8]) -> bool
+    ensures { λ r. ⌜ r ≡ same (now (a .entry)) (now (b .entry)) ⌝ }
+{
+    if a.len() != b.len() {
+        return false;
+    }
+    let mut i: usize = 0;
+    while i < a.len() {
+        if a[i] != b[i] {
+            return false;
+        }
+        i += 1;
+    }
+    true
+}
+
+// The place of w among the words of names, from 0, or how many these are where it is none of them.
+pub fn find_word(w: &[u8], names: &[u8]) -> usize
+    ensures { λ r. ⌜ r ≡ index (now (w .entry)) (cut (now (names .entry))) ⌝ }
+{
+    let mut k: usize = 0;
+    let mut at: usize = 0;
+    while at < names.len() {
+        match next_word(names, at) {
+            Next::End => {
+                return k;
+            }
+            Next::Word { start, end } => {
+                if same_bytes(w, &names[start..end]) {
+                    return k;
+                }
+                at = end;
+                k += 1;
+            }
+        }
+    }
+    k
+}
