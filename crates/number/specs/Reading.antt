@@ -2,7 +2,7 @@
 -- The place is that of the first byte that made it refuse, or the word's length if the word stopped too soon.
 use mathlib.Core.Bool.{Bool, cond, _&&_}
 use mathlib.Core.List.{List, [], _∷_}
-use Prim.Native.Nat.{ℕ, suc, _+_, _*_, _-_}
+use Prim.Native.Nat.{ℕ, suc, _+_, _*_, _-_, _≤_}
 use lib.Dec.{eqb, ltb, leb}
 use lib.IntN.{pos, negℤ}
 use lib.ListN.{take, drop}
@@ -34,9 +34,17 @@ unfoldable pub digitsFrom : ℕ → ℕ → ℕ → List ℕ → UnsignedRead
 digitsFrom b most i [] = Unsigned.Refused i
 digitsFrom b most i (c ∷ s) = scan b most 0 i (c ∷ s)
 
+unfoldable pub startsHex : List ℕ → Bool
+startsHex s = same (take 2 s) (text "0x")
+
 -- `0x` and hex digits, or decimal digits, from place i on
 unfoldable pub unsignedFrom : ℕ → ℕ → List ℕ → UnsignedRead
-unsignedFrom most i s = cond (same (take 2 s) (text "0x")) (digitsFrom 16 most (i + 2) (drop 2 s)) (digitsFrom 10 most i s)
+unsignedFrom most i s = cond (startsHex s) (digitsFrom 16 most (i + 2) (drop 2 s)) (digitsFrom 10 most i s)
+
+-- what is read so is never above `most`
+abbrev pub AtMost : ℕ → UnsignedRead → Type 0
+AtMost most (Unsigned.Value n) = n ≤ most
+AtMost most (Unsigned.Refused p) = 0 ≤ p
 
 -- an address: no sign, 0 to 99
 unfoldable pub readAddress : List ℕ → UnsignedRead

@@ -1,0 +1,5 @@
+pub mod Value
+pub mod Sum
+pub mod Scan
+pub mod Sign
+pub mod Answers
