@@ -87,7 +87,7 @@ itself : (t : Bool) → cond t true false ≡ t
 itself true = refl
 itself false = refl
 
-hex-empty : startsHex [] ≡ false
+pub hex-empty : startsHex [] ≡ false
 unfolding startsHex same text
 hex-empty = refl
 
