@@ -5,3 +5,6 @@ pub mod Sign
 pub mod Answers
 pub mod DigitWords
 pub mod Numbers
+pub mod Front
+pub mod Places
+pub mod Cases

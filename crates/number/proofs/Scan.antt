@@ -2,7 +2,7 @@
 -- Assumes nothing.
 use mathlib.Core.Path.{_≡_, refl, sym, ap, subst, _∙_}
 use mathlib.Core.Logic.{⊎-elim}
-use mathlib.Core.Bool.{Bool, true, false, cond}
+use mathlib.Core.Bool.{Bool, true, false, cond, _&&_}
 use mathlib.Core.List.{List, [], _∷_}
 use Prim.Native.Nat.{ℕ, suc, _+_, _*_, _≤_, _<_}
 use native.Mathlib.Omega.{arith}
@@ -11,29 +11,37 @@ use native.Mathlib.Numerals.{add-one}
 use lib.Dec.{eqb, ltb, leb}
 use lib.ListN.{length, getD, drop, drop-of-length-le, length-drop}
 use lib.Seq.{drop-cons, drop-drop, getD-drop}
-use borrow.Author.Tests.{lt-ltb, le-ltb, le-leb, lt-leb, eq-eqb, ne-eqb}
+use borrow.Author.Tests.{lt-ltb, le-ltb, le-leb, lt-leb, leb-true, eq-eqb, ne-eqb}
 use mir.Syntax.{w8, w32, w64}
 use mir.Val.{Fits}
 use Rattle.laws.specs.Text.{text, same}
 use Rattle.laws.proofs.Order.{lt-or-le}
-use Rattle.laws.proofs.Bools.{and-false, clash}
+use Rattle.laws.proofs.Bools.{and-false, and-right, clash}
 use Rattle.number.specs.Reading.{valueOf, scan, digitsFrom, startsHex, unsignedFrom, AtMost}
 use Rattle.number.specs.declared.UnsignedRead.{UnsignedRead}
 use Rattle.number.specs.declared.UnsignedRead.the-variants.{Value, Refused}
 
--- a digit that may stand there, a byte that is none, a digit that carries the value past `most`
+-- whether the byte may stand there: a digit that may, a byte that is no digit, a digit that carries the value past `most`
 module _ (b most n i c : ℕ) (s : List ℕ) where
-  pub scan-digit : valueOf c < b → n * b + valueOf c ≤ most → scan b most n i (c ∷ s) ≡ scan b most (n * b + valueOf c) (suc i) s
+  pub scan-goes : (ltb (valueOf c) b && leb (n * b + valueOf c) most) ≡ true → scan b most n i (c ∷ s) ≡ scan b most (n * b + valueOf c) (suc i) s
   unfolding scan
-  scan-digit h k = simp (lt-ltb (valueOf c) b h, le-leb (n * b + valueOf c) most k)
+  scan-goes h = rw h
+
+  pub scan-small : (ltb (valueOf c) b && leb (n * b + valueOf c) most) ≡ true → n * b + valueOf c ≤ most
+  scan-small h = leb-true (n * b + valueOf c) most (and-right (ltb (valueOf c) b) (leb (n * b + valueOf c) most) h)
+
+  pub scan-ends : (ltb (valueOf c) b && leb (n * b + valueOf c) most) ≡ false → scan b most n i (c ∷ s) ≡ Refused i
+  unfolding scan
+  scan-ends h = rw h
+
+  pub scan-digit : valueOf c < b → n * b + valueOf c ≤ most → scan b most n i (c ∷ s) ≡ scan b most (n * b + valueOf c) (suc i) s
+  scan-digit h k = scan-goes (simp (lt-ltb (valueOf c) b h, le-leb (n * b + valueOf c) most k))
 
   pub scan-stop : b ≤ valueOf c → scan b most n i (c ∷ s) ≡ Refused i
-  unfolding scan
-  scan-stop h = simp (le-ltb (valueOf c) b h)
+  scan-stop h = scan-ends (simp (le-ltb (valueOf c) b h))
 
   pub scan-past : most < n * b + valueOf c → scan b most n i (c ∷ s) ≡ Refused i
-  unfolding scan
-  scan-past h = simp (lt-leb (n * b + valueOf c) most h, and-false)
+  scan-past h = scan-ends (simp (lt-leb (n * b + valueOf c) most h, and-false))
 
 -- the loop of `digits`: reading on from place i with the number n is reading from the first place on
 module _ (b most from : ℕ) (w : List ℕ) where
@@ -54,15 +62,15 @@ module _ (b most from : ℕ) (w : List ℕ) where
       here : scan b most n i (getD w i 0 ∷ drop (suc i) w) ≡ digitsFrom b most from (drop from w)
       here = rw (drop-cons w i 0 h) at so
 
-      pub digits-stop : b ≤ valueOf (getD w i 0) → Refused i ≡ digitsFrom b most from (drop from w)
-      digits-stop k = sym (scan-stop b most n i (getD w i 0) (drop (suc i) w) k) ∙ here
+      pub digits-stop : (ltb (valueOf (getD w i 0)) b && leb (n * b + valueOf (getD w i 0)) most) ≡ false → Refused i ≡ digitsFrom b most from (drop from w)
+      digits-stop k = sym (scan-ends b most n i (getD w i 0) (drop (suc i) w) k) ∙ here
 
-      pub digits-past : most < n * b + valueOf (getD w i 0) → Refused i ≡ digitsFrom b most from (drop from w)
-      digits-past k = sym (scan-past b most n i (getD w i 0) (drop (suc i) w) k) ∙ here
+      pub digits-small : (ltb (valueOf (getD w i 0)) b && leb (n * b + valueOf (getD w i 0)) most) ≡ true → n * b + valueOf (getD w i 0) ≤ most
+      digits-small k = scan-small b most n i (getD w i 0) [] k
 
-      pub digits-more : valueOf (getD w i 0) < b → n * b + valueOf (getD w i 0) ≤ most
+      pub digits-more : (ltb (valueOf (getD w i 0)) b && leb (n * b + valueOf (getD w i 0)) most) ≡ true
           → scan b most (n * b + valueOf (getD w i 0)) (i + 1) (drop (i + 1) w) ≡ digitsFrom b most from (drop from w)
-      digits-more k m = rw add-one (sym (scan-digit b most n i (getD w i 0) (drop (suc i) w) k m) ∙ here)
+      digits-more k = rw add-one (sym (scan-goes b most n i (getD w i 0) (drop (suc i) w) k) ∙ here)
 
 -- one digit more fits 64 bits
 module _ {n most b : ℕ} (h : n ≤ most) (m : Fits w32 most) (k : Fits w8 b) where
@@ -75,8 +83,8 @@ module _ {n most b : ℕ} (h : n ≤ most) (m : Fits w32 most) (k : Fits w8 b) w
   pub product-fits : Fits w64 (n * b)
   product-fits = record { fits = omega (arith, product) }
 
-  pub next-fits : {d : ℕ} → d < b → Fits w64 (n * b + d)
-  next-fits l = record { fits = omega (arith, product, k .fits) }
+  pub next-fits : {d : ℕ} → d ≤ 99 → Fits w64 (n * b + d)
+  next-fits l = record { fits = omega (arith, product) }
 
 -- whether `0x` stands at place i
 no-way : (t : Bool) → cond t false false ≡ false

@@ -2,11 +2,13 @@
 -- Assumes nothing.
 use mathlib.Core.Path.{_≡_, refl, sym, _∙_}
 use mathlib.Core.Logic.{⊎-elim}
+use mathlib.Core.Bool.{Bool, true, false, cond, _&&_}
 use Prim.Native.Nat.{ℕ, _+_, _-_, _≤_, _<_}
 use native.Mathlib.Omega.{arith}
-use borrow.Author.Tests.{le-leb, lt-leb}
+use lib.Dec.{leb}
+use borrow.Author.Tests.{le-leb, lt-leb, leb-true}
 use Rattle.laws.proofs.Order.{lt-or-le}
-use Rattle.laws.proofs.Bools.{and-false}
+use Rattle.laws.proofs.Bools.{and-false, and-right}
 use Rattle.number.specs.Reading.{valueOf}
 use Rattle.number.specs.Spelling.{Digit, figure, capital, small}
 
@@ -38,6 +40,21 @@ module _ (c : ℕ) where
   pub none-above : 103 ≤ c → valueOf c ≡ 99
   unfolding valueOf
   none-above h = simp (lt-leb c 57 (omega arith), lt-leb c 70 (omega arith), lt-leb c 102 h, and-false)
+
+-- no value is above 99
+small-if : (t : Bool) (a b : ℕ) → (t ≡ true → a ≤ 99) → b ≤ 99 → cond t a b ≤ 99
+small-if true a b h k = h refl
+small-if false a b h k = k
+
+up-to : (c lo hi : ℕ) → (leb lo c && leb c hi) ≡ true → c ≤ hi
+up-to c lo hi e = leb-true c hi (and-right (leb lo c) (leb c hi) e)
+
+pub value-small : (c : ℕ) → valueOf c ≤ 99
+unfolding valueOf
+value-small c =
+    small-if (leb 48 c && leb c 57) _ _ (λ e. omega (arith, up-to c 48 57 e))
+    (small-if (leb 65 c && leb c 70) _ _ (λ e. omega (arith, up-to c 65 70 e))
+    (small-if (leb 97 c && leb c 102) _ _ (λ e. omega (arith, up-to c 97 102 e)) (omega arith)))
 
 -- a digit has its value
 pub digit-value : {b c d : ℕ} → b ≤ 16 → Digit b c d → valueOf c ≡ d

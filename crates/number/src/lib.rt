@@ -64,11 +64,10 @@ fn digits(w: &[u8], from: usize, base: u8, most: u32) -> UnsignedRead
     let mut i = from;
     while i < w.len() {
         let d = digit_value(w[i]);
-        if b <= d {
-            return UnsignedRead::Refused(i);
-        }
-        n = n * b + d;
-        if m < n {
+        let next = n * b + d;
+        if (d < b) & (next <= m) {
+            n = next;
+        } else {
             return UnsignedRead::Refused(i);
         }
         i += 1;

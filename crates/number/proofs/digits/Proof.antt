@@ -7,6 +7,7 @@ use native.Mathlib.Omega.{arith}
 use lib.ListN.{length, drop}
 use Rattle.number.specs.Reading.{scan, digitsFrom}
 use Rattle.number.proofs.Scan as scan-laws
+use Rattle.number.proofs.Value.{value-small}
 use Rattle.number.proofs.digits.Statement.{statement}
 use Rattle.number.proofs.digits.Tie as tie
 use Rattle.number.proofs.digits.Reads as reads
@@ -32,25 +33,21 @@ shared-slice-read-digit-value c = omega arith
 digit-value-requires : tie.Need-digit-value-requires Inv-loop μ-loop
 digit-value-requires c κs = search needs
 
+mul-next : tie.Need-mul-next Inv-loop μ-loop
+mul-next c =
+    let s = c .before .before .before in
+    scan-laws.product-fits (s .loop .inv .1) (s .before .before .before .fits .most) (s .before .before .before .fits .base)
+
+add-next : tie.Need-add-next Inv-loop μ-loop
+add-next c =
+    let s = c .before .before .before in
+    scan-laws.next-fits (s .loop .inv .1) (s .before .before .before .fits .most) (s .before .before .before .fits .base)
+    (rw (c .digit-value .ensures) (value-small _))
+
 returns-2 : tie.Need-returns-2 Inv-loop μ-loop
 returns-2 c =
     let l = c .before .before .before in
-    scan-laws.digits-stop _ _ _ _ _ _ (l .before .loop .inv .2) (l .loop-test .taken) (rw (c .before .digit-value .ensures) at (c .if2 .taken))
-
-mul-n : tie.Need-mul-n Inv-loop μ-loop
-mul-n c =
-    let s = c .before .before .before .before in
-    scan-laws.product-fits (s .loop .inv .1) (s .before .before .before .fits .most) (s .before .before .before .fits .base)
-
-add-n : tie.Need-add-n Inv-loop μ-loop
-add-n c =
-    let s = c .before .before .before .before in
-    scan-laws.next-fits (s .loop .inv .1) (s .before .before .before .fits .most) (s .before .before .before .fits .base) (c .if2 .left)
-
-returns-3 : tie.Need-returns-3 Inv-loop μ-loop
-returns-3 c =
-    let l = c .before .before .before .before in
-    scan-laws.digits-past _ _ _ _ _ _ (l .before .loop .inv .2) (l .loop-test .taken) (rw (c .before .before .digit-value .ensures) at (c .if3 .taken))
+    scan-laws.digits-stop _ _ _ _ _ _ (l .before .loop .inv .2) (l .loop-test .taken) (rw (c .before .digit-value .ensures) at (c .if2 .left))
 
 add-i : tie.Need-add-i Inv-loop μ-loop
 add-i c = omega arith
@@ -60,15 +57,16 @@ loop-less c = omega arith
 
 loop-again : tie.Need-loop-again Inv-loop μ-loop
 loop-again c =
-    let d = c .before .before .digit-value .ensures in
-    let l = c .before .before .before .before in (
+    let d = c .before .digit-value .ensures in
+    let l = c .before .before .before in
+    let t = rw d at (c .if2 .taken) in (
       omega arith,
-      c .if3 .left,
-      rw d (scan-laws.digits-more _ _ _ _ _ _ (l .before .loop .inv .2) (l .loop-test .taken) (rw d at (c .before .if2 .left)) (rw d at (c .if3 .left))),
+      rw d (scan-laws.digits-small _ _ _ _ _ _ (l .before .loop .inv .2) (l .loop-test .taken) t),
+      rw d (scan-laws.digits-more _ _ _ _ _ _ (l .before .loop .inv .2) (l .loop-test .taken) t),
     )
 
-returns-4 : tie.Need-returns-4 Inv-loop μ-loop
-returns-4 c = scan-laws.digits-end _ _ _ _ _ _ (c .before .loop .inv .2) (c .loop-test .left)
+returns-3 : tie.Need-returns-3 Inv-loop μ-loop
+returns-3 c = scan-laws.digits-end _ _ _ _ _ _ (c .before .loop .inv .2) (c .loop-test .left)
 
 pub digits-spec : {M : Type 1} → statement M
 digits-spec =
@@ -80,11 +78,10 @@ digits-spec =
     loop-holds
     shared-slice-read-digit-value
     digit-value-requires
+    mul-next
+    add-next
     returns-2
-    mul-n
-    add-n
-    returns-3
     add-i
     loop-less
     loop-again
-    returns-4)
+    returns-3)
