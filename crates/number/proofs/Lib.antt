@@ -7,4 +7,5 @@ pub mod DigitWords
 pub mod Numbers
 pub mod Front
 pub mod Places
+pub mod Decimal
 pub mod Cases
