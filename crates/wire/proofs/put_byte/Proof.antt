@@ -1,0 +1,26 @@
+-- One byte, where it has a place.
+-- Assumes nothing.
+use mathlib.Core.Path.{sym}
+use native.Mathlib.Omega.{arith}
+use lib.Seq.{set-out}
+use borrow.Author.Needs.{needs}
+use Rattle.wire.proofs.put_byte.Statement.{statement}
+use Rattle.wire.proofs.put_byte.Tie as tie
+
+slice-write-buf : tie.Need-slice-write-buf
+slice-write-buf c = search needs
+
+add-result : tie.Need-add-result
+add-result c = search needs
+
+same-length : tie.Need-same-length
+same-length c = search needs
+
+returns : tie.Need-returns
+returns c = search needs
+
+returns-2 : tie.Need-returns-2
+returns-2 c = record { bytes = sym (set-out _ _ _ (c .if1 .left)); place = omega arith }
+
+pub put-byte-spec : {M : Type 1} → statement M
+put-byte-spec = tie.close (tie.spec slice-write-buf add-result same-length returns returns-2)
