@@ -1,4 +1,5 @@
--- The place of a word in a list of words. Assumes nothing.
+-- The place of a word in a list of words, and a list whose words are all different.
+-- Assumes nothing.
 use mathlib.Core.Path.{_≡_, refl, sym, ap, _∙_}
 use mathlib.Core.Bool.{Bool, true, false, cond, _&&_}
 use mathlib.Core.List.{List, [], _∷_}

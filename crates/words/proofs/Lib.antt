@@ -1,3 +1,4 @@
 pub mod Space
 pub mod Cut
+pub mod Content
 pub mod Index

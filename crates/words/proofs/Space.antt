@@ -6,7 +6,6 @@ use mathlib.Core.List.{List}
 use Prim.Native.Nat.{ℕ, _+_, _≤_, _<_}
 use lib.ListN.{length, drop}
 use borrow.Author.Tests.{eq-eqb, ne-eqb, lt-ltb, le-ltb}
-use Rattle.laws.specs.Text.{space}
 use Rattle.laws.specs.Lists.{span}
 use Rattle.words.specs.Cutting.{isSpace, noSpace, nextOf}
 use Rattle.words.specs.declared.Next.the-variants.{Word, End}

@@ -1,7 +1,8 @@
 -- The words of a content, as a function on the list of its bytes; and the first word from a place on, as the code finds it.
-use mathlib.Core.Bool.{Bool, true, false, cond, not}
+-- "Words ... parted by one or more spaces. Spaces may stand before the first word and after the last, or alone where there is no word."
+use mathlib.Core.Bool.{Bool, false, cond, not}
 use mathlib.Core.List.{List, [], _∷_}
-use Prim.Native.Nat.{ℕ, suc, _+_}
+use Prim.Native.Nat.{ℕ, _+_}
 use lib.Dec.{eqb, ltb}
 use lib.ListN.{length, drop}
 use Rattle.laws.specs.Text.{space}
@@ -15,10 +16,12 @@ isSpace c = eqb c space
 unfoldable pub noSpace : ℕ → Bool
 noSpace c = not (eqb c space)
 
+-- whether a word begins with the first byte of the content
 abbrev pub begins : List ℕ → Bool
 begins [] = false
 begins (c ∷ s) = noSpace c
 
+-- a byte put before the first word
 unfoldable pub grow : ℕ → List (List ℕ) → List (List ℕ)
 grow c [] = (c ∷ []) ∷ []
 grow c (w ∷ ws) = (c ∷ w) ∷ ws
@@ -28,12 +31,7 @@ unfoldable pub cut : List ℕ → List (List ℕ)
 cut [] = []
 cut (c ∷ s) = cond (isSpace c) (cut s) (cond (begins s) (grow c (cut s)) ((c ∷ []) ∷ cut s))
 
-unfoldable pub nextOf : List ℕ → ℕ → Next
-nextOf s at =
-    cond (ltb (at + span isSpace (drop at s)) (length s))
-    (Word (at + span isSpace (drop at s)) (at + span isSpace (drop at s) + span noSpace (drop (at + span isSpace (drop at s)) s)))
-    End
-
+-- the first word, or nothing where there is none; and the other words
 unfoldable pub headWord : List (List ℕ) → List ℕ
 headWord [] = []
 headWord (w ∷ ws) = w
@@ -42,7 +40,19 @@ unfoldable pub tailWords : List (List ℕ) → List (List ℕ)
 tailWords [] = []
 tailWords (w ∷ ws) = ws
 
--- behind the first word from at on, or at itself
+-- ---- places in a content
+-- behind the spaces from `at` on, and behind the word from a on
+abbrev pub startOf : List ℕ → ℕ → ℕ
+startOf s at = at + span isSpace (drop at s)
+
+abbrev pub endOf : List ℕ → ℕ → ℕ
+endOf s a = a + span noSpace (drop a s)
+
+-- the first word from `at` on
+unfoldable pub nextOf : List ℕ → ℕ → Next
+nextOf s at = cond (ltb (startOf s at) (length s)) (Word (startOf s at) (endOf s (startOf s at))) End
+
+-- behind the first word from `at` on, or `at` itself
 abbrev behind : ℕ → Next → ℕ
 behind at End = at
 behind at (Word a e) = e

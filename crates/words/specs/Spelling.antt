@@ -1,9 +1,11 @@
--- How a content is composed of words. Nothing here says how it is cut.
+-- How a content is composed of words: every rule composes a text from parts. Nothing here says how a content is cut.
+-- Read `rule : A → B → Content s ws` as: from an A and a B, the bytes s are a content of the words ws.
 use mathlib.Core.Path.{_≡_}
 use mathlib.Core.List.{List, [], _∷_, _++_}
 use Prim.Native.Nat.{ℕ, _≤_}
 use Rattle.laws.specs.Text.{space, colon}
 
+-- "bytes 33 to 126 except the colon"
 pub record WordByte (c : ℕ) : Type 0 where
   pub low : 33 ≤ c
   pub high : c ≤ 126
@@ -17,7 +19,8 @@ pub data Word : List ℕ → Type 0 where
   one : {c : ℕ} → WordByte c → Word (c ∷ [])
   more : {c : ℕ} {w : List ℕ} → WordByte c → Word w → Word (c ∷ w)
 
--- spaces alone; a word behind spaces; a word behind spaces, and a content that begins with a space
+-- "words ... parted by one or more spaces. Spaces may stand before the first word and after the last, or alone where there is
+-- no word": spaces alone; a word behind spaces; a word behind spaces, and a content that begins with a space
 pub data Content : List ℕ → List (List ℕ) → Type 0 where
   blank : {p : List ℕ} → Spaces p → Content p []
   last : {p w : List ℕ} → Spaces p → Word w → Content (p ++ w) (w ∷ [])

@@ -1,10 +1,9 @@
-// Finds the words of a content: runs of bytes other than the space.
+// Finds the words of a content, one behind the other, and the place of a word in a table of names.
+// specs/Spelling.antt says how a content is composed, and proofs/Content.antt shows that just these words are found.
 ghost use mathlib.Core.Path.{_≡_};
-ghost use Prim.Native.Nat.{_+_};
 ghost use lib.ListN.{drop};
 ghost use Rattle.laws.specs.Text.{same};
-ghost use Rattle.laws.specs.Lists.{span};
-ghost use Rattle.words.specs.Cutting.{isSpace, noSpace, nextOf, cut, headWord, tailWords, pastOf};
+ghost use Rattle.words.specs.Cutting.{startOf, endOf, nextOf, cut, headWord, tailWords, pastOf};
 ghost use Rattle.words.specs.Find.{index};
 
 pub enum Next {
@@ -14,11 +13,11 @@ pub enum Next {
 
 // The first place from at on that has no space.
 pub fn skip_spaces(s: &[u8], at: usize) -> usize
-    ensures { λ r. ⌜ r ≡ at + span isSpace (drop at (now (s .entry))) ⌝ }
+    ensures { λ r. ⌜ r ≡ startOf (now (s .entry)) at ⌝ }
 {
     let mut i = at;
     while i < s.len() {
-        if s[i] != 32 {
+        if s[i] != b' ' {
             return i;
         }
         i += 1;
@@ -28,11 +27,11 @@ pub fn skip_spaces(s: &[u8], at: usize) -> usize
 
 // The first place from at on that has a space, or the end.
 pub fn word_end(s: &[u8], at: usize) -> usize
-    ensures { λ r. ⌜ r ≡ at + span noSpace (drop at (now (s .entry))) ⌝ }
+    ensures { λ r. ⌜ r ≡ endOf (now (s .entry)) at ⌝ }
 {
     let mut i = at;
     while i < s.len() {
-        if s[i] == 32 {
+        if s[i] == b' ' {
             return i;
         }
         i += 1;

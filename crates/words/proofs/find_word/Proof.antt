@@ -1,5 +1,6 @@
--- Invariant: k words are passed, and w is none of them. Assumes nothing.
-use mathlib.Core.Path.{_≡_, refl, sym, _∙_}
+-- Invariant: k words are passed, and w is none of them.
+-- Assumes nothing.
+use mathlib.Core.Path.{_≡_, sym, _∙_}
 use Prim.Native.Nat.{_+_, _-_, _≤_}
 use native.Mathlib.Omega.{arith}
 use lib.ListN.{length, drop}
@@ -10,18 +11,12 @@ use Rattle.words.specs.Find.{index}
 use Rattle.words.proofs.Index.{none-left, ended, here, past}
 use Rattle.words.proofs.find_word.Statement.{statement}
 use Rattle.words.proofs.find_word.Tie as tie
-use Rattle.words.proofs.find_word.Reads as reads
-use Rattle.words.proofs.find_word.Lts as lts
-use Rattle.words.proofs.same_bytes.Reads as same-bytes-reads
-use Rattle.words.proofs.next_word.Reads as next-word-reads
 
 abbrev Inv-loop : tie.InvT-loop
 Inv-loop w names k₀ at₀ k at = (k ≤ at) × (at ≤ length names) × (k + index w (cut (drop at names)) ≡ index w (cut names))
 
 abbrev μ-loop : tie.MeasureT-loop
 μ-loop w names k₀ at₀ k at = length names - at
-
--- src/lib.rt:30:5
 
 -- what is known once a word is found: where it is, and what the words from `at` on are
 abbrev Found : tie.After-known-told Inv-loop μ-loop → Type 0
@@ -30,60 +25,48 @@ Found c =
     Part (l .before .before .before .args .names .now) (l .loop .at) (c .before .start .given .0 .0) (c .before .start .given .0 .1 .0)
 
 the-word : (c : tie.After-known-told Inv-loop μ-loop) → Found c
-the-word c = found-word _ _ _ _ (c .before .before .before .next-word .ensures) (search)
+the-word c = found-word _ _ (c .before .before .before .next-word .ensures) _ _ (search)
 
 loop-holds : tie.Need-loop-holds Inv-loop μ-loop
 loop-holds c = omega arith
 
--- src/lib.rt:31:15
 next-word-requires : tie.Need-next-word-requires Inv-loop μ-loop
 next-word-requires c κs = search needs
 
--- src/lib.rt:33:17
 enum-told : tie.Need-enum-told Inv-loop μ-loop
 enum-told c = search needs
 
--- src/lib.rt:33:17
 returns : tie.Need-returns Inv-loop μ-loop
 returns c =
     let l = c .before .before .before .before in
     none-left _ _ _ (l .loop .at) (l .loop .inv .2) (found-end _ _ (c .before .before .next-word .ensures) (search))
 
--- src/lib.rt:35:26
 enum-known-start : tie.Need-enum-known-start Inv-loop μ-loop
 enum-known-start c = search needs
 
--- src/lib.rt:36:34
 sub-same-bytes : tie.Need-sub-same-bytes Inv-loop μ-loop
 sub-same-bytes c = omega (arith, the-word c)
 
--- src/lib.rt:36:34
 part-same-bytes-start : tie.Need-part-same-bytes-start Inv-loop μ-loop
 part-same-bytes-start c = omega (arith, the-word c)
 
--- src/lib.rt:36:34
 part-same-bytes-end : tie.Need-part-same-bytes-end Inv-loop μ-loop
 part-same-bytes-end c = omega (arith, the-word c)
 
--- src/lib.rt:36:20
 same-bytes-requires : tie.Need-same-bytes-requires Inv-loop μ-loop
 same-bytes-requires c κs = search needs
 
--- src/lib.rt:37:21
 returns-2 : tie.Need-returns-2 Inv-loop μ-loop
 returns-2 c =
     let f = c .before .before .before in
     here _ _ _ _ (f .before .before .before .before .before .loop .inv .2) _ _ (the-word f) (sym (c .before .same-bytes .ensures) ∙ c .if1 .taken)
 
--- src/lib.rt:40:17
 add-k : tie.Need-add-k Inv-loop μ-loop
 add-k c = omega arith
 
--- src/lib.rt:30:5
 loop-less : tie.Need-loop-less Inv-loop μ-loop
 loop-less c = omega (arith, the-word (c .before .before .before))
 
--- src/lib.rt:30:5
 loop-again : tie.Need-loop-again Inv-loop μ-loop
 loop-again c =
     let f = c .before .before .before in
@@ -91,7 +74,6 @@ loop-again c =
     let p = the-word f in
     (omega arith, omega arith, past _ _ _ _ (l .loop .inv .2) _ _ p (sym (c .before .same-bytes .ensures) ∙ c .if1 .left))
 
--- src/lib.rt:25:1
 returns-3 : tie.Need-returns-3 Inv-loop μ-loop
 returns-3 c = ended _ _ _ _ (c .before .loop .inv .2) (c .loop-test .left)
 

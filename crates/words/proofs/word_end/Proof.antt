@@ -1,5 +1,5 @@
--- Invariant: what is passed from i on, behind i, ends where what is passed from at on ends. Assumes nothing.
-use borrow.Author.Needs.{needs}
+-- Invariant: what is passed from i on, behind i, ends where what is passed from at on ends.
+-- Assumes nothing.
 use mathlib.Core.Path.{_≡_, refl, sym, _∙_}
 use Prim.Native.Nat.{_+_, _-_}
 use native.Mathlib.Omega.{arith}
@@ -10,8 +10,6 @@ use Rattle.laws.proofs.Span.{passed, stopped, ended}
 use Rattle.words.proofs.Space.{other-yes, other-not}
 use Rattle.words.proofs.word_end.Statement.{statement}
 use Rattle.words.proofs.word_end.Tie as tie
-use Rattle.words.proofs.word_end.Reads as reads
-use Rattle.words.proofs.word_end.Lts as lts
 
 abbrev Inv-loop : tie.InvT-loop
 Inv-loop s at i₀ i = i + span noSpace (drop i s) ≡ at + span noSpace (drop at s)
@@ -19,35 +17,28 @@ Inv-loop s at i₀ i = i + span noSpace (drop i s) ≡ at + span noSpace (drop a
 abbrev μ-loop : tie.MeasureT-loop
 μ-loop s at i₀ i = length s - i
 
--- src/lib.rt:31:5
 loop-holds : tie.Need-loop-holds Inv-loop μ-loop
 loop-holds c = refl
 
--- src/lib.rt:32:12
 shared-slice-read-if1 : tie.Need-shared-slice-read-if1 Inv-loop μ-loop
 shared-slice-read-if1 c = omega arith
 
--- src/lib.rt:33:13
 returns : tie.Need-returns Inv-loop μ-loop
 returns c =
     let l = c .before .before in
     sym (stopped noSpace _ _ (l .loop-test .taken) (other-not _ (c .if1 .taken))) ∙ l .before .loop .inv
 
--- src/lib.rt:35:9
 add-i : tie.Need-add-i Inv-loop μ-loop
 add-i c = omega arith
 
--- src/lib.rt:31:5
 loop-less : tie.Need-loop-less Inv-loop μ-loop
 loop-less c = omega arith
 
--- src/lib.rt:31:5
 loop-again : tie.Need-loop-again Inv-loop μ-loop
 loop-again c =
     let l = c .before .before in
     passed noSpace _ _ (l .loop-test .taken) (other-yes _ (c .if1 .left)) ∙ l .before .loop .inv
 
--- src/lib.rt:27:1
 returns-2 : tie.Need-returns-2 Inv-loop μ-loop
 returns-2 c = sym (ended noSpace _ _ (c .loop-test .left)) ∙ c .before .loop .inv
 
