@@ -3,3 +3,5 @@ pub mod Bools
 pub mod Lists
 pub mod Same
 pub mod Span
+pub mod Folds
+pub mod Answers

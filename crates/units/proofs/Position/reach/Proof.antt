@@ -1,0 +1,16 @@
+use mathlib.Core.Path.{sym, _∙_}
+use borrow.Author.Needs.{needs}
+use Rattle.units.proofs.Position.reach.Statement.{statement}
+use Rattle.units.proofs.Position.reach.Tie as tie
+
+within-requires : tie.Need-within-requires
+within-requires c κs = search needs
+
+returns : tie.Need-returns
+returns c = simp (sym (c .before .within .ensures) ∙ c .if1 .taken)
+
+returns-2 : tie.Need-returns-2
+returns-2 c = simp (sym (c .before .within .ensures) ∙ c .if1 .left)
+
+pub reach-spec : {M : Type 1} → statement M
+reach-spec = tie.close (tie.spec within-requires returns returns-2)

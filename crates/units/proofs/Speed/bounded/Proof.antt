@@ -1,0 +1,15 @@
+use borrow.Author.Needs.{needs}
+use Rattle.units.proofs.Speed.bounded.Statement.{statement}
+use Rattle.units.proofs.Speed.bounded.Tie as tie
+
+number-requires : tie.Need-number-requires
+number-requires c κs = search needs
+
+within-requires : tie.Need-within-requires
+within-requires c κs = search needs
+
+returns : tie.Need-returns
+returns c = simp (c .before .number .ensures) at (c .within .ensures)
+
+pub bounded-spec : {M : Type 1} → statement M
+bounded-spec = tie.close (tie.spec number-requires within-requires returns)
