@@ -17,6 +17,12 @@ pub struct Speed(pub i32);
 // Any other number of a line or a setting.
 pub struct Number(pub i32);
 
+// From the least to the most, both ends included.
+pub struct Range {
+    pub least: Number,
+    pub most: Number,
+}
+
 // A target that lies in its range, or none.
 pub enum Reach {
     At(Position),
@@ -73,11 +79,17 @@ impl Number {
         self.0 <= other.0
     }
 
-    pub fn within(self, least: Number, most: Number) -> bool
-        ensures { λ r. ⌜ r ≡ within (least .0 to most .0) (self .0) ⌝ }
+    pub fn to(self, most: Number) -> Range
+        ensures { λ r. ⌜ r ≡ (self .0 to most .0) ⌝ }
     {
-        let a = least.at_most(self);
-        let b = self.at_most(most);
+        Range { least: self, most }
+    }
+
+    pub fn within(self, range: Range) -> bool
+        ensures { λ r. ⌜ r ≡ within range (self .0) ⌝ }
+    {
+        let a = range.least.at_most(self);
+        let b = self.at_most(range.most);
         a & b
     }
 }
@@ -115,7 +127,7 @@ impl Speed {
         ensures { λ r. ⌜ r ≡ within bound (self .0) ⌝ }
     {
         self.number()
-            .within(Number(-1000000000), Number(1000000000))
+            .within(Number(-1000000000).to(Number(1000000000)))
     }
 }
 
