@@ -5,3 +5,4 @@ pub mod Same
 pub mod Span
 pub mod Folds
 pub mod Answers
+pub mod Spaced

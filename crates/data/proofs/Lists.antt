@@ -1,0 +1,114 @@
+-- The loops of `put_values`, `put_warnings` and `put_echo`: which words are left at each turn.
+-- Assumes nothing.
+use mathlib.Core.Path.{_≡_, refl, sym, ap, _∙_}
+use mathlib.Core.Logic.{⊎-elim}
+use mathlib.Core.Bool.{Bool, true, false, cond}
+use mathlib.Core.List.{List, [], _∷_, _++_, map}
+use Prim.Native.Nat.{ℕ, zero, suc, _+_, _-_, _/_, _%_, _≤_, _<_, min}
+use native.Mathlib.Omega.{arith}
+use native.Mathlib.Numerals.{add-one}
+use lib.Dec.{eqb}
+use lib.ListN.{length, getD, take, drop, drop-of-length-le, length-take}
+use lib.Seq.{drop-cons, getD-take, take-all}
+use Rattle.laws.specs.Text.{space, text, spaced}
+use Rattle.laws.proofs.Order.{lt-or-le, eq-or-ne}
+use Rattle.laws.proofs.Spaced.{trail, spaced-trail}
+use Rattle.units.specs.declared.Number.{Number}
+use Rattle.number.specs.Decimal.{decimal, twoDigits}
+use Rattle.words.specs.Cutting.{cut, headWord, tailWords}
+use Rattle.words.proofs.Cut.{word-none, word-some}
+use Rattle.flags.specs.Flags.{bits, named, count, warningNames}
+use Rattle.flags.proofs.Names.{warnings-number}
+use Rattle.wire.specs.Wrote.{Wrote}
+use Rattle.wire.proofs.Wrote.{_▸_}
+use Rattle.data.specs.Data.{values, warningsIn, warningList, echoed}
+use Rattle.data.specs.Parts.{warningAt, nameIf, wordIf}
+use Rattle.data.proofs.Parts.{word-yes, word-no}
+use Rattle.data.proofs.Writing.{Writing, writing-if, writing-more, writing-none, writing-end}
+
+-- ---- values
+unfoldable pub decimals : List Number → List (List ℕ)
+decimals ns = map (λ n. decimal (n .0)) ns
+
+module _ (v : List Number) (count n : ℕ) (e : n ≡ min count 4) (four : length v ≡ 4) where
+  enough : take count v ≡ take n v
+  enough =
+      ⊎-elim (λ (h : 4 < count). let q : n ≡ 4 = omega arith in rw q (take-all count v (omega arith) ∙ sym (take-all 4 v (omega arith))))
+      (λ h. let q : n ≡ count = omega arith in rw q)
+      (lt-or-le 4 count)
+
+  size : length (take n v) ≡ n
+  size = length-take n v ∙ omega arith
+
+  pub values-none : n ≡ 0 → values (take count v) ≡ []
+  unfolding values spaced
+  values-none z = rw (enough, z)
+
+  pub values-some : (d : Number) → (n ≡ 0 → ⊥) → values (take count v) ≡ decimal (getD v 0 d .0) ++ trail (decimals (drop 1 (take n v)))
+  unfolding values decimals
+  values-some d z =
+      let h : 0 < length (take n v) = omega (arith, size) in
+      rw enough (rw (drop-cons (take n v) 0 d h) (spaced-trail _ _ ∙ rw (getD-take n v 0 d (omega arith))))
+
+  module _ (i : ℕ) where
+    pub values-more : (d : Number) → i < n → decimals (drop i (take n v)) ≡ decimal (getD v i d .0) ∷ decimals (drop (i + 1) (take n v))
+    unfolding decimals
+    values-more d h =
+        let l : i < length (take n v) = omega (arith, size) in
+        rw (drop-cons (take n v) i d l, getD-take n v i d h, add-one)
+
+    pub values-end : n ≤ i → decimals (drop i (take n v)) ≡ []
+    unfolding decimals
+    values-end h =
+        let l : length (take n v) ≤ i = omega (arith, size) in
+        rw (drop-of-length-le (take n v) l)
+
+-- ---- the list of warnings
+pub list-split : (m : ℕ) → warningList m ≡ twoDigits (count (bits 8 m)) ++ trail (named (bits 8 m) warningNames)
+unfolding warningList warningsIn
+list-split m = rw (warnings-number m) (spaced-trail _ _)
+
+module _ (left i : ℕ) where
+  pub names-more : i < 8 → named (bits (8 - i) left) (drop i warningNames)
+      ≡ cond (eqb (left % 2) 1) (warningAt i ∷ named (bits (8 - (i + 1)) (left / 2)) (drop (i + 1) warningNames)) (named (bits (8 - (i + 1)) (left / 2)) (drop (i + 1) warningNames))
+  unfolding bits named warningNames warningAt
+  names-more h =
+      let e : 8 - i ≡ suc (8 - (i + 1)) = omega arith in
+      rw (e, drop-cons warningNames i (text "--") h, add-one)
+
+  pub names-end : 8 ≤ i → named (bits (8 - i) left) (drop i warningNames) ≡ []
+  unfolding bits named
+  names-end h = let e : 8 - i ≡ 0 = omega arith in rw e
+
+  pub names-turn : i < 8 → {b : List ℕ} {at : ℕ} {whole c d : List ℕ} {r q : ℕ} → Writing b at whole (named (bits (8 - i) left) (drop i warningNames)) c r
+      → Wrote c r (nameIf (eqb (left % 2) 1) i) d q → Writing b at whole (named (bits (8 - (i + 1)) (left / 2)) (drop (i + 1) warningNames)) d q
+  unfolding nameIf
+  names-turn h p v = writing-if (eqb (left % 2) 1) (warningAt i) (rw (names-more h) at p) v
+
+-- ---- the words of an echo
+pub echo-none : (l v : List ℕ) → v ≡ headWord (cut l) → length v ≡ 0 → echoed (cut l) ≡ text "0"
+unfolding echoed
+echo-none l v head h = rw (word-none l v head h)
+
+module _ (l v : List ℕ) (t : List (List ℕ)) (head : v ≡ headWord (cut l)) (tail : t ≡ tailWords (cut l)) where
+  pub echo-some : (length v ≡ 0 → ⊥) → echoed (cut l) ≡ v ++ trail (take 16 t)
+  unfolding echoed
+  echo-some h = rw (word-some l v t head tail h) (spaced-trail v (take 16 t))
+
+  pub echo-turn : (left : ℕ) → 0 < left → {b : List ℕ} {at : ℕ} {whole c d : List ℕ} {r q : ℕ} → Writing b at whole (take left (cut l)) c r
+      → Wrote c r (wordIf v) d q → Writing b at whole (take (left - 1) t) d q
+  unfolding tailWords
+  echo-turn zero z p w = absurd (omega arith)
+  echo-turn (suc left) z p w =
+      let e : suc left - 1 ≡ left = omega arith in
+      ⊎-elim (λ h. let n = word-none l v head h in
+      let u : t ≡ [] = tail ∙ rw n in
+      rw (e, u, take-nothing left) (writing-none (rw n at p) (rw (word-no v h) at w)))
+      (λ h. rw e (writing-more (rw (word-some l v t head tail h) at p) (rw (word-yes v h) at w)))
+      (eq-or-ne (length v) 0)
+    where
+      take-nothing : (k : ℕ) → take {A = List ℕ} k [] ≡ []
+      take-nothing k = take-all k [] (omega arith)
+
+pub echo-end : (ws : List (List ℕ)) (left : ℕ) → left ≤ 0 → take left ws ≡ []
+echo-end ws left h = let e : left ≡ 0 = omega arith in rw e

@@ -1,0 +1,33 @@
+-- `data::put_if` meets its contract: a space and a name, or nothing.
+-- Assumes nothing.
+use Rattle.wire.proofs.Wrote.{_▸_, wrote-none}
+use Rattle.data.proofs.Parts.{name-yes, name-no}
+use borrow.Author.Needs.{needs}
+use Rattle.data.proofs.put_if.Statement.{statement}
+use Rattle.data.proofs.put_if.Tie as tie
+use Rattle.data.proofs.put_if.Reads as reads
+use Rattle.data.proofs.put_if.Lts as lts
+use Rattle.data.proofs.put_warning.Reads as put-warning-reads
+use Rattle.wire.proofs.put_byte.Reads as put-byte-reads
+
+put-byte-requires : tie.Need-put-byte-requires
+put-byte-requires c κs = search needs
+
+put-warning-requires : tie.Need-put-warning-requires
+put-warning-requires c κs = search needs
+
+same-length : tie.Need-same-length
+same-length c = search needs
+
+returns : tie.Need-returns
+returns c =
+    let name = c .before .before in
+    let gap = name .before .before .before .before in
+    rw (name-yes _ _ (gap .before .before .if1 .taken)) (gap .put-byte .ensures ▸ name .put-warning .ensures)
+
+returns-2 : tie.Need-returns-2
+returns-2 c = rw (name-no _ _ (c .if1 .left)) (wrote-none _ _)
+
+pub put-if-spec : {M : Type 1} → statement M
+put-if-spec =
+    tie.close (tie.spec put-byte-requires put-warning-requires same-length returns returns-2)

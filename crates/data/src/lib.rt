@@ -1,0 +1,126 @@
+// Writes a reply's data into a lent buffer: values, the list of warnings, the words of an echo, a refusal's name.
+// specs/Data.antt says each of these texts; specs/Parts.antt those of the inner writers.
+ghost use mathlib.Core.Path.{_≡_};
+ghost use Prim.Native.Nat.{min};
+ghost use lib.Dec.{eqb};
+ghost use lib.ListN.{take, drop};
+ghost use Rattle.words.specs.Cutting.{cut};
+ghost use Rattle.wire.specs.Wrote.{Wrote};
+ghost use Rattle.data.specs.Data.{values, warningList, echoed, refusalName};
+ghost use Rattle.data.specs.Parts.{warningAt, nameIf, wordIf};
+use units::Number;
+use wire::put_byte;
+use wire::put_signed;
+use wire::put_text;
+use wire::put_two;
+
+// The names of the warnings, two bytes each, and what stands for none.
+const NAMES: [u8; 18] = *b"FDFQFSFTFBFPFEWR--";
+
+// The lesser of two.
+pub fn lesser(a: usize, b: usize) -> usize
+    ensures { λ r. ⌜ r ≡ min a b ⌝ }
+{
+    if a < b { a } else { b }
+}
+
+// The name of the warning at a place from 0, or `--`.
+pub fn put_warning(buf: &mut [u8], at: usize, place: u32) -> usize
+    ensures { λ r. ⌜ Wrote (now (buf .entry)) at (warningAt place) (now (buf .exit)) r ⌝ }
+{
+    let k = lesser(place as usize, 8) * 2;
+    let next = put_byte(buf, at, NAMES[k]);
+    put_byte(buf, next, NAMES[k + 1])
+}
+
+// The name of a refusal that is replied.
+pub fn put_refusal(buf: &mut [u8], at: usize, number: u8) -> usize
+    ensures { λ r. ⌜ Wrote (now (buf .entry)) at (refusalName number) (now (buf .exit)) r ⌝ }
+{
+    match number {
+        10 => put_text(buf, at, b"BADCOMMAND"),
+        11 => put_text(buf, at, b"BADDATA"),
+        12 => put_text(buf, at, b"BADAXIS"),
+        13 => put_text(buf, at, b"DEVICEONLY"),
+        14 => put_text(buf, at, b"NOACCESS"),
+        15 => put_text(buf, at, b"PARKED"),
+        16 => put_text(buf, at, b"STATUSBUSY"),
+        _ => at,
+    }
+}
+
+// The number of warnings that a mask has, and their names.
+pub fn put_warnings(buf: &mut [u8], at: usize, m: u32) -> usize
+    ensures { λ r. ⌜ Wrote (now (buf .entry)) at (warningList m) (now (buf .exit)) r ⌝ }
+{
+    let mut next = put_two(buf, at, flags::number(m) as u64);
+    let mut left = m;
+    let mut i: u32 = 0;
+    while i < 8 {
+        next = put_if(buf, next, left % 2, i);
+        left = left / 2;
+        i += 1;
+    }
+    next
+}
+
+// A warning's name behind a space, if its bit is 1.
+fn put_if(buf: &mut [u8], at: usize, bit: u32, place: u32) -> usize
+    ensures { λ r. ⌜ Wrote (now (buf .entry)) at (nameIf (eqb bit 1) place) (now (buf .exit)) r ⌝ }
+{
+    if bit == 1 {
+        let next = put_byte(buf, at, b' ');
+        put_warning(buf, next, place)
+    } else {
+        at
+    }
+}
+
+// The first values, up to four.
+pub fn put_values(buf: &mut [u8], at: usize, v: [Number; 4], count: usize) -> usize
+    ensures { λ r. ⌜ Wrote (now (buf .entry)) at (values (take count v)) (now (buf .exit)) r ⌝ }
+{
+    let n = lesser(count, 4);
+    if n == 0 {
+        return at;
+    }
+    let mut next = put_signed(buf, at, v[0]);
+    let mut i: usize = 1;
+    while i < n {
+        let gap = put_byte(buf, next, b' ');
+        next = put_signed(buf, gap, v[i]);
+        i += 1;
+    }
+    next
+}
+
+// A word behind a space, if there is one.
+fn put_word(buf: &mut [u8], at: usize, w: &[u8]) -> usize
+    ensures { λ r. ⌜ Wrote (now (buf .entry)) at (wordIf (now (w .entry))) (now (buf .exit)) r ⌝ }
+{
+    if w.len() == 0 {
+        at
+    } else {
+        let next = put_byte(buf, at, b' ');
+        put_text(buf, next, w)
+    }
+}
+
+// The first 17 words from a place of s on.
+pub fn put_echo(buf: &mut [u8], at: usize, s: &[u8], from: usize) -> usize
+    ensures { λ r. ⌜ Wrote (now (buf .entry)) at (echoed (cut (drop from (now (s .entry))))) (now (buf .exit)) r ⌝ }
+{
+    let first = words::first_word(s, from);
+    if first.len() == 0 {
+        return put_byte(buf, at, b'0');
+    }
+    let mut next = put_text(buf, at, first);
+    let mut place = words::past_word(s, from);
+    let mut left: usize = 16;
+    while 0 < left {
+        next = put_word(buf, next, words::first_word(s, place));
+        place = words::past_word(s, place);
+        left -= 1;
+    }
+    next
+}

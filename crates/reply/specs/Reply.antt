@@ -1,0 +1,32 @@
+-- The text of a reply: "`@`, address in two digits, axis, OK or RJ, IDLE or BUSY, highest warning or `--`, data; single
+-- spaces between; `:CC` in upper case, summed from after the `@`, if comm.checksum is 1; CR LF."
+use mathlib.Core.Bool.{Bool, cond}
+use mathlib.Core.List.{List, [], _∷_, _++_}
+use Prim.Native.Nat.{ℕ}
+use lib.ListN.{getD}
+use Rattle.laws.specs.Text.{text, spaced}
+use Rattle.number.specs.Checksum.{checksum}
+use Rattle.number.specs.Decimal.{digits, twoDigits, hexPair}
+use Rattle.data.specs.Data.{warningsIn}
+use Rattle.reply.specs.declared.Head.{Head}
+
+unfoldable pub verdict : Bool → List ℕ
+verdict ok = cond ok (text "OK") (text "RJ")
+
+unfoldable pub status : Bool → List ℕ
+status busy = cond busy (text "BUSY") (text "IDLE")
+
+-- "highest warning or `--`"
+unfoldable pub highest : ℕ → List ℕ
+highest m = getD (warningsIn m) 0 (text "--")
+
+-- what is summed
+unfoldable pub body : Head → List ℕ → List ℕ
+body h words = spaced (twoDigits (h .address) ∷ digits (h .axis) ∷ verdict (h .ok) ∷ status (h .busy) ∷ highest (h .warnings) ∷ words ∷ [])
+
+-- the checksum of s, where it is wanted, and the footer
+unfoldable pub ending : Bool → List ℕ → List ℕ
+ending sum s = cond sum (text ":" ++ hexPair (checksum s)) [] ++ text "\r\n"
+
+unfoldable pub reply : Head → Bool → List ℕ → List ℕ
+reply h sum words = text "@" ++ body h words ++ ending sum (body h words)

@@ -1,0 +1,85 @@
+// Writes a reply into a lent buffer, part by part: its head, its data, its end.
+// specs/Reply.antt says how they compose to a reply.
+ghost use mathlib.Core.Path.{_≡_};
+ghost use mathlib.Core.List.{_++_};
+ghost use lib.ListN.{take, drop};
+ghost use Rattle.laws.specs.Text.{text};
+ghost use Rattle.number.specs.Checksum.{checksum};
+ghost use Rattle.wire.specs.Wrote.{Wrote};
+ghost use Rattle.reply.specs.Reply.{verdict, status, body, ending};
+use data::lesser;
+use data::put_warning;
+use wire::put_byte;
+use wire::put_number;
+use wire::put_pair;
+use wire::put_text;
+use wire::put_two;
+
+// What stands before a reply's data. The mask has a bit for each warning, the highest first.
+pub struct Head {
+    pub address: u64,
+    pub axis: u64,
+    pub ok: bool,
+    pub busy: bool,
+    pub warnings: u32,
+}
+
+fn put_verdict(buf: &mut [u8], at: usize, ok: bool) -> usize
+    ensures { λ r. ⌜ Wrote (now (buf .entry)) at (verdict ok) (now (buf .exit)) r ⌝ }
+{
+    if ok {
+        put_text(buf, at, b"OK")
+    } else {
+        put_text(buf, at, b"RJ")
+    }
+}
+
+fn put_status(buf: &mut [u8], at: usize, busy: bool) -> usize
+    ensures { λ r. ⌜ Wrote (now (buf .entry)) at (status busy) (now (buf .exit)) r ⌝ }
+{
+    if busy {
+        put_text(buf, at, b"BUSY")
+    } else {
+        put_text(buf, at, b"IDLE")
+    }
+}
+
+// Up to the space before the data.
+pub fn put_head(buf: &mut [u8], at: usize, h: Head) -> usize
+    ensures { λ r. ⌜ Wrote (now (buf .entry)) at (text "@" ++ body h (text "")) (now (buf .exit)) r ⌝ }
+{
+    let a = put_byte(buf, at, b'@');
+    let b = put_two(buf, a, h.address);
+    let c = put_byte(buf, b, b' ');
+    let d = put_number(buf, c, h.axis);
+    let e = put_byte(buf, d, b' ');
+    let f = put_verdict(buf, e, h.ok);
+    let g = put_byte(buf, f, b' ');
+    let i = put_status(buf, g, h.busy);
+    let j = put_byte(buf, i, b' ');
+    let k = put_warning(buf, j, flags::highest(h.warnings));
+    put_byte(buf, k, b' ')
+}
+
+// The checksum of what stands in the buffer behind its first byte and before the place.
+fn summed(buf: &[u8], at: usize) -> u8
+    ensures { λ r. ⌜ r ≡ checksum (drop 1 (take at (now (buf .entry)))) ⌝ }
+{
+    let end = lesser(at, buf.len());
+    let from = lesser(1, end);
+    number::checksum(&buf[from..end])
+}
+
+// That checksum, if it is wanted, and the footer.
+pub fn put_end(buf: &mut [u8], at: usize, sum: bool) -> usize
+    ensures { λ r. ⌜ Wrote (now (buf .entry)) at (ending sum (drop 1 (take at (now (buf .entry))))) (now (buf .exit)) r ⌝ }
+{
+    if sum {
+        let c = summed(buf, at);
+        let colon = put_byte(buf, at, b':');
+        let pair = put_pair(buf, colon, c);
+        put_text(buf, pair, b"\r\n")
+    } else {
+        put_text(buf, at, b"\r\n")
+    }
+}
