@@ -5,7 +5,14 @@ use mathlib.Core.List.{List, [], _∷_}
 use Prim.Native.Nat.{ℕ}
 use Prim.Native.String.{String}
 use Rattle.laws.specs.Text.{text}
-use Rattle.command.specs.Types.{AxisSetting, Pos, LimitMin, LimitMax, MaxSpeed, Accel, DriverCurrentMax, DriverCurrentRun, DriverCurrentHold, DriverDir, EncoderIndexCount, DeviceSetting, CommAddress, CommAlert, CommChecksum, SystemAccess, DeviceId, SystemAxisCount, Setting, OfAxis, OfDevice, Writing, Always, AtRest, Never}
+use Rattle.command.specs.declared.AxisSetting.{AxisSetting}
+use Rattle.command.specs.declared.AxisSetting.the-variants.{Pos, LimitMin, LimitMax, MaxSpeed, Accel, DriverCurrentMax, DriverCurrentRun, DriverCurrentHold, DriverDir, EncoderIndexCount}
+use Rattle.command.specs.declared.DeviceSetting.{DeviceSetting}
+use Rattle.command.specs.declared.DeviceSetting.the-variants.{CommAddress, CommAlert, CommChecksum, SystemAccess, DeviceId, SystemAxisCount}
+use Rattle.command.specs.declared.Setting.{Setting}
+use Rattle.command.specs.declared.Setting.the-variants.{OfAxis, OfDevice}
+use Rattle.command.specs.declared.Writing.{Writing}
+use Rattle.command.specs.declared.Writing.the-variants.{Always, AtRest, Never}
 
 pub record About : Type 0 where
   pub name : List ℕ
