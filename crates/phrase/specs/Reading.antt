@@ -1,0 +1,162 @@
+-- How a command's words are read: the command, or the refusal 10 or 11.
+-- 10 is given at a word that the table does not have, before any word behind it is looked at, and so before 11.
+use mathlib.Core.Bool.{Bool, true, false, cond}
+use mathlib.Core.List.{List, [], _∷_, _++_, map}
+use Prim.Native.Nat.{ℕ}
+use lib.ListN.{drop}
+use Rattle.laws.specs.Text.{text, same}
+use Rattle.units.specs.Units.{position, speed}
+use Rattle.number.specs.Reading.{readNumber}
+use Rattle.number.specs.declared.NumberRead.{NumberRead}
+use Rattle.number.specs.declared.NumberRead.the-variants as Number
+use Rattle.words.specs.Cutting.{headWord, tailWords}
+use Rattle.words.specs.Find.{Entry, _means_, meaningOf}
+use Rattle.phrase.specs.Types.{Number, Setting, OfAxis, Pos, LimitMin, LimitMax, MaxSpeed, Accel, DriverCurrentMax, DriverCurrentRun, DriverCurrentHold, DriverDir, EncoderIndexCount, OfDevice, CommAddress, CommAlert, CommChecksum, SystemAccess, DeviceId, SystemAxisCount, Command, Nothing, Home, Stop, Estop, MoveTo, MoveVel, Abs, Rel, Min, Max, Stored, Get, Set, Storepos, StoreposAt, StoreposCurrent, Warnings, WarningsClear, ParkingState, Park, Unpark, Echo}
+use Rattle.command.specs.Settings.{nameOf, readOnly}
+use Rattle.phrase.specs.declared.SettingRead.{SettingRead}
+use Rattle.phrase.specs.declared.SettingRead.the-variants.{Is, Unknown}
+use Rattle.phrase.specs.declared.Numbered.{Numbered}
+use Rattle.phrase.specs.declared.Numbered.the-variants as With
+use Rattle.phrase.specs.declared.WordsRead.{WordsRead}
+use Rattle.phrase.specs.declared.WordsRead.the-variants.{Refused}
+use Rattle.phrase.specs.declared.WordsRead.the-variants as Words
+
+-- a command with no word behind it
+unfoldable pub ended : Command → List (List ℕ) → WordsRead
+ended c [] = Words.Command c
+ended c (w ∷ ws) = Refused 11
+
+-- the command of a row that waits for its number
+abbrev pub numbered : Numbered → Number → Command
+numbered With.MoveAbs n = MoveTo (Abs (position (n .0)))
+numbered With.MoveRel n = MoveTo (Rel (position (n .0)))
+numbered With.MoveVel n = MoveVel (speed (n .0))
+numbered With.MoveStored n = MoveTo (Stored n)
+numbered (With.SetTo s) n = Set s n
+numbered With.Store n = Storepos n
+numbered (With.StoreAt m) n = StoreposAt m (position (n .0))
+numbered With.StoreCurrent n = StoreposCurrent n
+
+abbrev pub made : Numbered → NumberRead → WordsRead
+made k (Number.Value n) = Words.Command (numbered k n)
+made k (Number.Refused p) = Refused 11
+
+-- a row whose last word is its number: one word is left, and it is a number
+unfoldable pub oneNumber : Numbered → List (List ℕ) → WordsRead
+oneNumber k [] = Refused 11
+oneNumber k (w ∷ []) = made k (readNumber w)
+oneNumber k (w ∷ v ∷ ws) = Refused 11
+
+-- behind `move`
+abbrev pub moves : List (List ℕ) → List (Entry WordsRead)
+moves ws =
+    text "abs" means oneNumber With.MoveAbs ws
+    ∷ text "rel" means oneNumber With.MoveRel ws
+    ∷ text "vel" means oneNumber With.MoveVel ws
+    ∷ text "min" means ended (MoveTo Min) ws
+    ∷ text "max" means ended (MoveTo Max) ws
+    ∷ text "stored" means oneNumber With.MoveStored ws
+    ∷ []
+
+unfoldable pub readMove : List (List ℕ) → WordsRead
+readMove ws = meaningOf (Refused 10) (headWord ws) (moves (tailWords ws))
+
+-- a setting's name
+abbrev pub named : Setting → Entry SettingRead
+named s = nameOf s means Is s
+
+abbrev pub names : List (Entry SettingRead)
+names =
+    map named
+    (OfAxis Pos ∷ OfAxis LimitMin ∷ OfAxis LimitMax ∷ OfAxis MaxSpeed ∷ OfAxis Accel ∷ OfAxis DriverCurrentMax ∷ OfAxis DriverCurrentRun ∷ OfAxis DriverCurrentHold
+    ∷ OfAxis DriverDir ∷ OfAxis EncoderIndexCount ∷ OfDevice CommAddress ∷ OfDevice CommAlert ∷ OfDevice CommChecksum ∷ OfDevice SystemAccess ∷ OfDevice DeviceId
+    ∷ OfDevice SystemAxisCount ∷ [])
+
+unfoldable pub readSetting : List ℕ → SettingRead
+readSetting w = meaningOf Unknown w names
+
+-- behind `get`
+abbrev pub getOf : SettingRead → List (List ℕ) → WordsRead
+getOf Unknown ws = Refused 10
+getOf (Is s) ws = ended (Get s) ws
+
+unfoldable pub readGet : List (List ℕ) → WordsRead
+readGet ws = getOf (readSetting (headWord ws)) (tailWords ws)
+
+-- behind `set`: "set of a read-only setting" is 10
+abbrev pub setOf : SettingRead → List (List ℕ) → WordsRead
+setOf Unknown ws = Refused 10
+setOf (Is s) ws = cond (readOnly s) (Refused 10) (oneNumber (With.SetTo s) ws)
+
+unfoldable pub readSet : List (List ℕ) → WordsRead
+readSet ws = setOf (readSetting (headWord ws)) (tailWords ws)
+
+-- behind `tools storepos`: N; N P; N current
+abbrev pub storeAt : NumberRead → List ℕ → WordsRead
+storeAt (Number.Refused p) v = Refused 11
+storeAt (Number.Value n) v = made (With.StoreAt n) (readNumber v)
+
+unfoldable pub readStorepos : List (List ℕ) → WordsRead
+readStorepos [] = Refused 11
+readStorepos (w ∷ []) = made With.Store (readNumber w)
+readStorepos (w ∷ v ∷ []) = cond (same v (text "current")) (made With.StoreCurrent (readNumber w)) (storeAt (readNumber w) v)
+readStorepos (w ∷ v ∷ u ∷ ws) = Refused 11
+
+-- behind `tools parking`
+abbrev pub parkings : List (List ℕ) → List (Entry WordsRead)
+parkings ws = text "state" means ended ParkingState ws ∷ text "park" means ended Park ws ∷ text "unpark" means ended Unpark ws ∷ []
+
+unfoldable pub readParking : List (List ℕ) → WordsRead
+readParking ws = meaningOf (Refused 11) (headWord ws) (parkings (tailWords ws))
+
+-- behind `tools`
+abbrev pub tools : List (List ℕ) → List (Entry WordsRead)
+tools ws = text "storepos" means readStorepos ws ∷ text "parking" means readParking ws ∷ text "echo" means Words.Command Echo ∷ []
+
+unfoldable pub readTools : List (List ℕ) → WordsRead
+readTools ws = meaningOf (Refused 10) (headWord ws) (tools (tailWords ws))
+
+-- behind `warnings`
+unfoldable pub readWarnings : List (List ℕ) → WordsRead
+readWarnings [] = Words.Command Warnings
+readWarnings (w ∷ ws) = cond (same w (text "clear")) (ended WarningsClear ws) (Refused 11)
+
+-- the first word
+abbrev pub firsts : List (List ℕ) → List (Entry WordsRead)
+firsts ws =
+    text "home" means ended Home ws
+    ∷ text "stop" means ended Stop ws
+    ∷ text "estop" means ended Estop ws
+    ∷ text "move" means readMove ws
+    ∷ text "get" means readGet ws
+    ∷ text "set" means readSet ws
+    ∷ text "tools" means readTools ws
+    ∷ text "warnings" means readWarnings ws
+    ∷ []
+
+unfoldable pub readCommand : List (List ℕ) → WordsRead
+readCommand [] = Words.Command Nothing
+readCommand (w ∷ ws) = meaningOf (Refused 10) w (firsts ws)
+
+-- "An echo command carries its words": the command's third and those behind it. No other command carries any.
+abbrev pub isEcho : Command → Bool
+isEcho Nothing = false
+isEcho Home = false
+isEcho Stop = false
+isEcho Estop = false
+isEcho (MoveTo t) = false
+isEcho (MoveVel v) = false
+isEcho (Get s) = false
+isEcho (Set s n) = false
+isEcho (Storepos n) = false
+isEcho (StoreposAt n p) = false
+isEcho (StoreposCurrent n) = false
+isEcho Warnings = false
+isEcho WarningsClear = false
+isEcho ParkingState = false
+isEcho Park = false
+isEcho Unpark = false
+isEcho Echo = true
+
+unfoldable pub echoOf : Command → List (List ℕ) → List (List ℕ)
+echoOf c ws = cond (isEcho c) (drop 2 ws) []
