@@ -3,13 +3,12 @@
 use mathlib.Core.Path.{_≡_, refl, sym, ap, _∙_}
 use mathlib.Core.Bool.{Bool, true, false, cond}
 use mathlib.Core.List.{List, [], _∷_, map}
-use Prim.Native.Nat.{ℕ, zero, suc}
+use Prim.Native.Nat.{ℕ}
 use native.Mathlib.Omega.{arith}
 use lib.ListN.{length}
 use Rattle.laws.specs.Text.{text, same}
 use Rattle.number.specs.Reading.{readNumber}
 use Rattle.number.specs.declared.NumberRead.{NumberRead}
-use Rattle.number.specs.declared.NumberRead.the-variants as Number
 use Rattle.words.specs.Cutting.{headWord, tailWords, cut}
 use Rattle.words.specs.Find.{Entry, meaningOf, entryAt, index}
 use Rattle.words.proofs.Cut.{word-none, word-some}

@@ -1,7 +1,7 @@
 -- How a command's words are read: the command, or the refusal 10 or 11.
 -- 10 is given at a word that the table does not have, before any word behind it is looked at, and so before 11.
 use mathlib.Core.Bool.{Bool, true, false, cond}
-use mathlib.Core.List.{List, [], _∷_, _++_, map}
+use mathlib.Core.List.{List, [], _∷_, map}
 use Prim.Native.Nat.{ℕ}
 use lib.ListN.{drop}
 use Rattle.laws.specs.Text.{text, same}
@@ -61,16 +61,18 @@ moves ws =
 unfoldable pub readMove : List (List ℕ) → WordsRead
 readMove ws = meaningOf (Refused 10) (headWord ws) (moves (tailWords ws))
 
--- a setting's name
+-- the settings by their names
+abbrev pub settings : List Setting
+settings =
+    OfAxis Pos ∷ OfAxis LimitMin ∷ OfAxis LimitMax ∷ OfAxis MaxSpeed ∷ OfAxis Accel ∷ OfAxis DriverCurrentMax ∷ OfAxis DriverCurrentRun ∷ OfAxis DriverCurrentHold
+    ∷ OfAxis DriverDir ∷ OfAxis EncoderIndexCount ∷ OfDevice CommAddress ∷ OfDevice CommAlert ∷ OfDevice CommChecksum ∷ OfDevice SystemAccess ∷ OfDevice DeviceId
+    ∷ OfDevice SystemAxisCount ∷ []
+
 abbrev pub named : Setting → Entry SettingRead
 named s = nameOf s means Is s
 
 abbrev pub names : List (Entry SettingRead)
-names =
-    map named
-    (OfAxis Pos ∷ OfAxis LimitMin ∷ OfAxis LimitMax ∷ OfAxis MaxSpeed ∷ OfAxis Accel ∷ OfAxis DriverCurrentMax ∷ OfAxis DriverCurrentRun ∷ OfAxis DriverCurrentHold
-    ∷ OfAxis DriverDir ∷ OfAxis EncoderIndexCount ∷ OfDevice CommAddress ∷ OfDevice CommAlert ∷ OfDevice CommChecksum ∷ OfDevice SystemAccess ∷ OfDevice DeviceId
-    ∷ OfDevice SystemAxisCount ∷ [])
+names = map named settings
 
 unfoldable pub readSetting : List ℕ → SettingRead
 readSetting w = meaningOf Unknown w names
