@@ -1,3 +1,4 @@
 pub mod Parts
 pub mod Writing
 pub mod Lists
+pub mod Lengths

@@ -6,3 +6,4 @@ pub mod Span
 pub mod Folds
 pub mod Answers
 pub mod Spaced
+pub mod Each

@@ -24,7 +24,7 @@ pub highest-is : (m : ℕ) → warningAt (first (bits 8 m)) ≡ highest m
 unfolding highest warningsIn warningAt
 highest-is m = sym (warnings-highest m (text "--"))
 
-abbrev gap : List ℕ
+abbrev pub gap : List ℕ
 gap = space ∷ []
 
 pub head-is : (h : Head) → text "@" ++ twoDigits (h .address) ++ gap ++ digits (h .axis) ++ gap ++ verdict (h .ok) ++ gap ++ status (h .busy) ++ gap ++ highest (h .warnings) ++ gap ≡ text "@" ++ body h (text "")
