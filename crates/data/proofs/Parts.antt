@@ -1,35 +1,71 @@
 -- The texts of the inner writers, case by case.
 -- Assumes nothing.
 use mathlib.Core.Path.{_≡_, refl, sym, ap, _∙_}
-use mathlib.Core.Bool.{true, false}
 use mathlib.Core.List.{List, [], _∷_, _++_}
-use Prim.Native.Nat.{ℕ, zero, suc, _+_, _*_, _≤_, _<_, min}
+use Prim.Native.Nat.{ℕ, zero, suc, _+_, _-_, _≤_, _<_, min}
 use native.Mathlib.Omega.{arith}
 use lib.Dec.{eqb}
-use lib.ListN.{length, getD}
+use lib.ListN.{length, getD, drop, drop-of-length-le}
 use borrow.Author.Tests.{eq-eqb, ne-eqb}
 use Rattle.laws.specs.Text.{space, text}
+use Rattle.words.specs.Cutting.{isSpace, noSpace, grow, cut, headWord}
 use Rattle.flags.specs.Flags.{warningNames}
-use Rattle.data.specs.Data.{Named, refusals, nameIn, refusalName}
+use Rattle.data.specs.Data.{refusals, nameIn, refusalName}
 use Rattle.data.specs.Parts.{warningAt, nameIf, wordIf}
 
--- the two bytes of a name in the code's table
-unfoldable pub table : List ℕ
-table = text "FDFQFSFTFBFPFEWR--"
+-- ---- the tables of names that the code looks into
+pub warning-word : (k j : ℕ) → j ≡ min k 8 → headWord (drop j (cut (text "FD FQ FS FT FB FP FE WR --"))) ≡ warningAt k
+unfolding warningAt warningNames text cut isSpace noSpace grow headWord
+warning-word zero j e = let q : j ≡ 0 = omega arith in rw q
+warning-word (suc zero) j e = let q : j ≡ 1 = omega arith in rw q
+warning-word (suc (suc zero)) j e = let q : j ≡ 2 = omega arith in rw q
+warning-word (suc (suc (suc zero))) j e = let q : j ≡ 3 = omega arith in rw q
+warning-word (suc (suc (suc (suc zero)))) j e = let q : j ≡ 4 = omega arith in rw q
+warning-word (suc (suc (suc (suc (suc zero))))) j e = let q : j ≡ 5 = omega arith in rw q
+warning-word (suc (suc (suc (suc (suc (suc zero)))))) j e = let q : j ≡ 6 = omega arith in rw q
+warning-word (suc (suc (suc (suc (suc (suc (suc zero))))))) j e = let q : j ≡ 7 = omega arith in rw q
+warning-word (suc (suc (suc (suc (suc (suc (suc (suc k)))))))) j e = let q : j ≡ 8 = omega arith in rw q
 
-pub warning-two : (k j : ℕ) → j ≡ min k 8 → getD table (j * 2) 0 ∷ getD table (j * 2 + 1) 0 ∷ [] ≡ warningAt k
-unfolding table warningAt warningNames text
-warning-two zero j e = let q : j ≡ 0 = omega arith in rw q
-warning-two (suc zero) j e = let q : j ≡ 1 = omega arith in rw q
-warning-two (suc (suc zero)) j e = let q : j ≡ 2 = omega arith in rw q
-warning-two (suc (suc (suc zero))) j e = let q : j ≡ 3 = omega arith in rw q
-warning-two (suc (suc (suc (suc zero)))) j e = let q : j ≡ 4 = omega arith in rw q
-warning-two (suc (suc (suc (suc (suc zero))))) j e = let q : j ≡ 5 = omega arith in rw q
-warning-two (suc (suc (suc (suc (suc (suc zero)))))) j e = let q : j ≡ 6 = omega arith in rw q
-warning-two (suc (suc (suc (suc (suc (suc (suc zero))))))) j e = let q : j ≡ 7 = omega arith in rw q
-warning-two (suc (suc (suc (suc (suc (suc (suc (suc k)))))))) j e = let q : j ≡ 8 = omega arith in rw q
+refused : (k : ℕ) → refusalName (10 + k) ≡ headWord (drop k (cut (text "BADCOMMAND BADDATA BADAXIS DEVICEONLY NOACCESS PARKED STATUSBUSY")))
+unfolding refusalName refusals nameIn text cut isSpace noSpace grow headWord
+refused zero = refl
+refused (suc zero) = refl
+refused (suc (suc zero)) = refl
+refused (suc (suc (suc zero))) = refl
+refused (suc (suc (suc (suc zero)))) = refl
+refused (suc (suc (suc (suc (suc zero))))) = refl
+refused (suc (suc (suc (suc (suc (suc zero)))))) = refl
+refused (suc (suc (suc (suc (suc (suc (suc k))))))) = none (10 + suc (suc (suc (suc (suc (suc (suc k))))))) (omega arith) ∙ sym (ap headWord (drop-of-length-le {A = List ℕ} [] {i = k} (omega arith)))
+  where
+    none : (n : ℕ) → 17 ≤ n → refusalName n ≡ []
+    none n h =
+        simp (
+          ne-eqb n 10 (λ (e : n ≡ 10). omega arith),
+          ne-eqb n 11 (λ (e : n ≡ 11). omega arith),
+          ne-eqb n 12 (λ (e : n ≡ 12). omega arith),
+          ne-eqb n 13 (λ (e : n ≡ 13). omega arith),
+          ne-eqb n 14 (λ (e : n ≡ 14). omega arith),
+          ne-eqb n 15 (λ (e : n ≡ 15). omega arith),
+          ne-eqb n 16 (λ (e : n ≡ 16). omega arith),
+        )
 
--- a name or a word behind a space, or nothing
+pub refusal-word : (n : ℕ) → 10 ≤ n → refusalName n ≡ headWord (drop (n - 10) (cut (text "BADCOMMAND BADDATA BADAXIS DEVICEONLY NOACCESS PARKED STATUSBUSY")))
+refusal-word n h = let e : 10 + (n - 10) ≡ n = omega arith in ap refusalName (sym e) ∙ refused (n - 10)
+
+pub refusal-none : (n : ℕ) → n < 10 → refusalName n ≡ []
+unfolding refusalName refusals nameIn
+refusal-none n h =
+    simp (
+      ne-eqb n 10 (λ (e : n ≡ 10). omega arith),
+      ne-eqb n 11 (λ (e : n ≡ 11). omega arith),
+      ne-eqb n 12 (λ (e : n ≡ 12). omega arith),
+      ne-eqb n 13 (λ (e : n ≡ 13). omega arith),
+      ne-eqb n 14 (λ (e : n ≡ 14). omega arith),
+      ne-eqb n 15 (λ (e : n ≡ 15). omega arith),
+      ne-eqb n 16 (λ (e : n ≡ 16). omega arith),
+    )
+
+-- ---- a name or a word behind a space, or nothing
 module _ (bit k : ℕ) where
   pub name-yes : bit ≡ 1 → nameIf (eqb bit 1) k ≡ (space ∷ []) ++ warningAt k
   unfolding nameIf
@@ -47,8 +83,3 @@ module _ (w : List ℕ) where
   pub word-yes : (length w ≡ 0 → ⊥) → wordIf w ≡ (space ∷ []) ++ w
   unfolding wordIf
   word-yes h = rw (ne-eqb (length w) 0 h)
-
--- a number that the table of refusals does not have
-pub no-name : (n : ℕ) → (n ≡ 10 → ⊥) → (n ≡ 11 → ⊥) → (n ≡ 12 → ⊥) → (n ≡ 13 → ⊥) → (n ≡ 14 → ⊥) → (n ≡ 15 → ⊥) → (n ≡ 16 → ⊥) → refusalName n ≡ []
-unfolding refusalName refusals nameIn
-no-name n a b c d e f g = simp (ne-eqb n 10 a, ne-eqb n 11 b, ne-eqb n 12 c, ne-eqb n 13 d, ne-eqb n 14 e, ne-eqb n 15 f, ne-eqb n 16 g)

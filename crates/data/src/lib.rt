@@ -14,9 +14,6 @@ use wire::put_signed;
 use wire::put_text;
 use wire::put_two;
 
-// The names of the warnings, two bytes each, and what stands for none.
-const NAMES: [u8; 18] = *b"FDFQFSFTFBFPFEWR--";
-
 // The lesser of two.
 pub fn lesser(a: usize, b: usize) -> usize
     ensures { λ r. ⌜ r ≡ min a b ⌝ }
@@ -28,25 +25,26 @@ pub fn lesser(a: usize, b: usize) -> usize
 pub fn put_warning(buf: &mut [u8], at: usize, place: u32) -> usize
     ensures { λ r. ⌜ Wrote (now (buf .entry)) at (warningAt place) (now (buf .exit)) r ⌝ }
 {
-    let k = lesser(place as usize, 8) * 2;
-    let next = put_byte(buf, at, NAMES[k]);
-    put_byte(buf, next, NAMES[k + 1])
+    let k = lesser(place as usize, 8);
+    put_text(buf, at, words::nth_word(b"FD FQ FS FT FB FP FE WR --", k))
 }
 
-// The name of a refusal that is replied.
+// The name of a refusal that is replied; no other number has one.
 pub fn put_refusal(buf: &mut [u8], at: usize, number: u8) -> usize
     ensures { λ r. ⌜ Wrote (now (buf .entry)) at (refusalName number) (now (buf .exit)) r ⌝ }
 {
-    match number {
-        10 => put_text(buf, at, b"BADCOMMAND"),
-        11 => put_text(buf, at, b"BADDATA"),
-        12 => put_text(buf, at, b"BADAXIS"),
-        13 => put_text(buf, at, b"DEVICEONLY"),
-        14 => put_text(buf, at, b"NOACCESS"),
-        15 => put_text(buf, at, b"PARKED"),
-        16 => put_text(buf, at, b"STATUSBUSY"),
-        _ => at,
+    if number < 10 {
+        return at;
     }
+    let k = number as usize - 10;
+    put_text(
+        buf,
+        at,
+        words::nth_word(
+            b"BADCOMMAND BADDATA BADAXIS DEVICEONLY NOACCESS PARKED STATUSBUSY",
+            k,
+        ),
+    )
 }
 
 // The number of warnings that a mask has, and their names.

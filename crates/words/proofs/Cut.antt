@@ -4,7 +4,8 @@ use mathlib.Core.Path.{_≡_, refl, sym, ap, _∙_}
 use mathlib.Core.Logic.{⊎-elim}
 use mathlib.Core.Bool.{Bool, true, false}
 use mathlib.Core.List.{List, [], _∷_}
-use Prim.Native.Nat.{ℕ, suc, _+_, _-_, _≤_, _<_}
+use Prim.Native.Nat.{ℕ, zero, suc, _+_, _-_, _≤_, _<_}
+use native.Mathlib.Numerals.{add-one}
 use native.Mathlib.Omega.{arith}
 use native.Mathlib.Nat.{add-zero}
 use lib.ListN.{length, getD, take, drop, length-drop, drop-of-length-le}
@@ -160,3 +161,15 @@ word-none l v e h = head-empty l (rw e at h)
 
 pub word-some : (l v : List ℕ) (t : List (List ℕ)) → v ≡ headWord (cut l) → t ≡ tailWords (cut l) → (length v ≡ 0 → ⊥) → cut l ≡ v ∷ t
 word-some l v t e q h = rw (e, q) (head-full (cut l) (rw e at h))
+
+-- the words behind the first of those from place i of the list on
+tail-drop : (ws : List (List ℕ)) (i : ℕ) → tailWords (drop i ws) ≡ drop (suc i) ws
+unfolding tailWords
+tail-drop [] zero = refl
+tail-drop [] (suc i) = refl
+tail-drop (w ∷ ws) zero = refl
+tail-drop (w ∷ ws) (suc i) = tail-drop ws i
+
+-- a turn of `nth_word`, which has passed i words
+pub nth-more : (ws : List (List ℕ)) (i : ℕ) (vs us : List (List ℕ)) → us ≡ tailWords vs → vs ≡ drop i ws → us ≡ drop (i + 1) ws
+nth-more ws i vs us t e = t ∙ rw (e, tail-drop ws i, add-one)

@@ -111,3 +111,16 @@ pub fn find_word(w: &[u8], names: &[u8]) -> usize
     }
     k
 }
+
+// The word of s at a place from 0, or nothing where there are not so many.
+pub fn nth_word(s: &[u8], k: usize) -> &[u8]
+    ensures { λ r. ⌜ now r ≡ headWord (drop k (cut (now (s .entry)))) ⌝ }
+{
+    let mut at: usize = 0;
+    let mut i: usize = 0;
+    while i < k {
+        at = past_word(s, at);
+        i += 1;
+    }
+    first_word(s, at)
+}

@@ -1,142 +1,49 @@
--- `data::put_refusal` meets its contract: each name is the table's, and no other number has one.
+-- `data::put_refusal` meets its contract: a word of the table, or nothing.
 -- Assumes nothing.
+use mathlib.Core.Path.{sym, _∙_}
 use Rattle.laws.specs.Text.{text}
 use Rattle.wire.proofs.Wrote.{wrote-none}
-use Rattle.data.specs.Data.{refusals, nameIn, refusalName}
-use Rattle.data.proofs.Parts.{no-name}
+use Rattle.data.proofs.Parts.{refusal-none, refusal-word}
 use borrow.Author.Needs.{needs}
 use Rattle.data.proofs.put_refusal.Statement.{statement}
 use Rattle.data.proofs.put_refusal.Tie as tie
 use Rattle.data.proofs.put_refusal.Reads as reads
 use Rattle.data.proofs.put_refusal.Lts as lts
 use Rattle.wire.proofs.put_text.Reads as put-text-reads
+use Rattle.words.proofs.nth_word.Reads as nth-word-reads
 
-slice-aggregate-put-text : tie.Need-slice-aggregate-put-text
-slice-aggregate-put-text c = search needs
+returns : tie.Need-returns
+returns c = rw (refusal-none _ (c .if1 .taken)) (wrote-none _ _)
+
+sub-k : tie.Need-sub-k
+sub-k c = search needs
+
+slice-aggregate-nth-word : tie.Need-slice-aggregate-nth-word
+slice-aggregate-nth-word c = search needs
+
+nth-word-requires : tie.Need-nth-word-requires
+nth-word-requires c κs = search needs
 
 put-text-requires : tie.Need-put-text-requires
 put-text-requires c κs = search needs
 
-slice-aggregate-put-text-2 : tie.Need-slice-aggregate-put-text-2
-slice-aggregate-put-text-2 c = search needs
-
-put-text-requires-2 : tie.Need-put-text-requires-2
-put-text-requires-2 c κs = search needs
-
-slice-aggregate-put-text-3 : tie.Need-slice-aggregate-put-text-3
-slice-aggregate-put-text-3 c = search needs
-
-put-text-requires-3 : tie.Need-put-text-requires-3
-put-text-requires-3 c κs = search needs
-
-slice-aggregate-put-text-4 : tie.Need-slice-aggregate-put-text-4
-slice-aggregate-put-text-4 c = search needs
-
-put-text-requires-4 : tie.Need-put-text-requires-4
-put-text-requires-4 c κs = search needs
-
-slice-aggregate-put-text-5 : tie.Need-slice-aggregate-put-text-5
-slice-aggregate-put-text-5 c = search needs
-
-put-text-requires-5 : tie.Need-put-text-requires-5
-put-text-requires-5 c κs = search needs
-
-slice-aggregate-put-text-6 : tie.Need-slice-aggregate-put-text-6
-slice-aggregate-put-text-6 c = search needs
-
-put-text-requires-6 : tie.Need-put-text-requires-6
-put-text-requires-6 c κs = search needs
-
-slice-aggregate-put-text-7 : tie.Need-slice-aggregate-put-text-7
-slice-aggregate-put-text-7 c = search needs
-
-put-text-requires-7 : tie.Need-put-text-requires-7
-put-text-requires-7 c κs = search needs
-
 same-length : tie.Need-same-length
 same-length c = search needs
 
-returns : tie.Need-returns
-unfolding refusalName refusals nameIn text
-returns c = rw (c .before .before .before .before .before .match .keys1) (c .before .before .put-text .ensures)
-
-same-length-2 : tie.Need-same-length-2
-same-length-2 c = search needs
-
 returns-2 : tie.Need-returns-2
-unfolding refusalName refusals nameIn text
-returns-2 c = rw (c .before .before .before .before .before .match .keys2) (c .before .before .put-text2 .ensures)
-
-same-length-3 : tie.Need-same-length-3
-same-length-3 c = search needs
-
-returns-3 : tie.Need-returns-3
-unfolding refusalName refusals nameIn text
-returns-3 c = rw (c .before .before .before .before .before .match .keys3) (c .before .before .put-text3 .ensures)
-
-same-length-4 : tie.Need-same-length-4
-same-length-4 c = search needs
-
-returns-4 : tie.Need-returns-4
-unfolding refusalName refusals nameIn text
-returns-4 c = rw (c .before .before .before .before .before .match .keys4) (c .before .before .put-text4 .ensures)
-
-same-length-5 : tie.Need-same-length-5
-same-length-5 c = search needs
-
-returns-5 : tie.Need-returns-5
-unfolding refusalName refusals nameIn text
-returns-5 c = rw (c .before .before .before .before .before .match .keys5) (c .before .before .put-text5 .ensures)
-
-same-length-6 : tie.Need-same-length-6
-same-length-6 c = search needs
-
-returns-6 : tie.Need-returns-6
-unfolding refusalName refusals nameIn text
-returns-6 c = rw (c .before .before .before .before .before .match .keys6) (c .before .before .put-text6 .ensures)
-
-same-length-7 : tie.Need-same-length-7
-same-length-7 c = search needs
-
-returns-7 : tie.Need-returns-7
-unfolding refusalName refusals nameIn text
-returns-7 c = rw (c .before .before .before .before .before .match .keys7) (c .before .before .put-text7 .ensures)
-
-returns-8 : tie.Need-returns-8
-returns-8 c =
-    let n = c .before .before .args .number in
-    rw (no-name n (search) (search) (search) (search) (search) (search) (search)) (wrote-none _ _)
+unfolding text
+returns-2 c =
+    let word = c .before .before .before in
+    rw (refusal-word _ (word .before .before .before .if1 .left) ∙ sym (word .nth-word .ensures)) (c .before .before .put-text .ensures)
 
 pub put-refusal-spec : {M : Type 1} → statement M
 put-refusal-spec =
     tie.close
     (tie.spec
-    slice-aggregate-put-text
-    put-text-requires
-    slice-aggregate-put-text-2
-    put-text-requires-2
-    slice-aggregate-put-text-3
-    put-text-requires-3
-    slice-aggregate-put-text-4
-    put-text-requires-4
-    slice-aggregate-put-text-5
-    put-text-requires-5
-    slice-aggregate-put-text-6
-    put-text-requires-6
-    slice-aggregate-put-text-7
-    put-text-requires-7
-    same-length
     returns
-    same-length-2
-    returns-2
-    same-length-3
-    returns-3
-    same-length-4
-    returns-4
-    same-length-5
-    returns-5
-    same-length-6
-    returns-6
-    same-length-7
-    returns-7
-    returns-8)
+    sub-k
+    slice-aggregate-nth-word
+    nth-word-requires
+    put-text-requires
+    same-length
+    returns-2)
