@@ -7,3 +7,4 @@ pub mod Folds
 pub mod Answers
 pub mod Spaced
 pub mod Each
+pub mod Passes
