@@ -1,2 +1,4 @@
 pub mod Frames
 pub mod Steps
+pub mod Composed
+pub mod Demand3
