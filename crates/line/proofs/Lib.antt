@@ -2,3 +2,4 @@ pub mod Frames
 pub mod Steps
 pub mod Composed
 pub mod Demand3
+pub mod Cases

@@ -1,0 +1,69 @@
+-- Document 01's lines and those of the settled readings, as one table under one statement: antt computes the reader on each.
+-- Assumes nothing.
+use mathlib.Core.Path.{_≡_, refl}
+use mathlib.Core.List.{List, [], _∷_, map}
+use Prim.Native.String.{String}
+use lib.IntN.{pos}
+use Rattle.laws.specs.Text.{text}
+use Rattle.units.specs.Units.{minus, position, number}
+use Rattle.phrase.specs.Types.{OfAxis, Pos, DriverDir, OfDevice, CommAddress, CommAlert, Nothing, Home, MoveTo, Abs, Get, Set, StoreposCurrent, Echo}
+use Rattle.phrase.specs.declared.WordsRead.the-variants.{Command, Refused}
+use Rattle.line.specs.declared.LineRead.{LineRead}
+use Rattle.line.specs.declared.LineRead.the-variants.{Silent, Addressed}
+use Rattle.line.specs.Reading.{readLine}
+use Rattle.line.specs.Open.{reading}
+
+-- a line, and what it is read as
+pub record Case : Type 0 where
+  pub line : String
+  pub answer : LineRead
+
+infix 70 _is_
+abbrev _is_ : String → LineRead → Case
+l is a = record { line = l; answer = a }
+
+abbrev pub table : List Case
+table =
+    "/\n" is Addressed 0 0 0 (Command Nothing)
+    ∷ "/home" is Silent 1
+    ∷ "home\n" is Silent 1
+    ∷ "/home\r\r\n" is Silent 1
+    ∷ "/01 tools echo:8F\n" is Addressed 1 0 1 (Command Echo)
+    ∷ "/01 tools echo:8f\r\n" is Addressed 1 0 1 (Command Echo)
+    ∷ "/01 tools echo:8E\n" is Silent 3
+    ∷ "/a:b\n" is Silent 3
+    ∷ "/:00\n" is Addressed 0 0 0 (Command Nothing)
+    ∷ "/0x63 home\n" is Addressed 99 0 1 (Command Home)
+    ∷ "/0x64 home\n" is Silent 4
+    ∷ "/-1\n" is Silent 4
+    ∷ "/+1\n" is Silent 4
+    ∷ "/1 7 home\n" is Addressed 1 7 2 (Command Home)
+    ∷ "/1 12 home\n" is Addressed 1 0 1 (Refused 10)
+    ∷ "/1 01 home\n" is Addressed 1 0 1 (Refused 10)
+    ∷ "/1 5\n" is Addressed 1 5 2 (Command Nothing)
+    ∷ "/1 1 get comm.alert\n" is Addressed 1 1 2 (Command (Get (OfDevice CommAlert)))
+    ∷ "/set driver.dir 1\n" is Addressed 0 0 0 (Command (Set (OfAxis DriverDir) (number (pos 1))))
+    ∷ "/01 set comm.address 5\n" is Addressed 1 0 1 (Command (Set (OfDevice CommAddress) (number (pos 5))))
+    ∷ "/move abs 305381\n" is Addressed 0 0 0 (Command (MoveTo (Abs (position (pos 305381)))))
+    ∷ "/move abs 305382\n" is Addressed 0 0 0 (Command (MoveTo (Abs (position (pos 305382)))))
+    ∷ "/set pos 2147483648\n" is Addressed 0 0 0 (Refused 11)
+    ∷ "/set pos 2147483647\n" is Addressed 0 0 0 (Command (Set (OfAxis Pos) (number (pos 2147483647))))
+    ∷ "/set pos -2147483648\n" is Addressed 0 0 0 (Command (Set (OfAxis Pos) (number (minus 2147483648))))
+    ∷ "/get nothing now\n" is Addressed 0 0 0 (Refused 10)
+    ∷ "/set deviceid x y\n" is Addressed 0 0 0 (Refused 10)
+    ∷ "/set deviceid\n" is Addressed 0 0 0 (Refused 10)
+    ∷ "/move\n" is Addressed 0 0 0 (Refused 10)
+    ∷ "/tools\n" is Addressed 0 0 0 (Refused 10)
+    ∷ "/tools parking\n" is Addressed 0 0 0 (Refused 11)
+    ∷ "/tools parking x\n" is Addressed 0 0 0 (Refused 11)
+    ∷ "/tools storepos 1 current\n" is Addressed 0 0 0 (Command (StoreposCurrent (number (pos 1))))
+    ∷ "/warnings now\n" is Addressed 0 0 0 (Refused 11)
+    ∷ "/2 nonsense\n" is Addressed 2 0 1 (Refused 10)
+    ∷ "/move abs 0x\n" is Addressed 0 0 0 (Refused 11)
+    ∷ "/tools echo xxxxxxxxxxxxxxxxxxxxxxxxxxxxxxxxxxxxxxxxxxxxxxxxxxxxxxxxxxxxxxxxxxx\n" is Addressed 0 0 0 (Command Echo)
+    ∷ "/tools echo xxxxxxxxxxxxxxxxxxxxxxxxxxxxxxxxxxxxxxxxxxxxxxxxxxxxxxxxxxxxxxxxxxxx\n" is Silent 2
+    ∷ []
+
+pub cases : map (λ (c : Case). readLine (text (c .line))) table ≡ map (λ (c : Case). c .answer) table
+unfolding reading
+cases = refl

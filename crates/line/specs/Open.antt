@@ -1,0 +1,36 @@
+-- Every definition that reading a line goes through, by one name: a proof that computes a line says `unfolding reading`.
+-- Nothing is defined here.
+use Prim.Native.Nat.{ℕ}
+use Rattle.laws.specs.Text as Text
+use Rattle.laws.specs.Lists as Lists
+use Rattle.number.specs.Checksum as Checksum
+use Rattle.number.specs.Reading as Number
+use Rattle.words.specs.Cutting as Words
+use Rattle.words.specs.Find as Find
+use Rattle.command.specs.Settings as Settings
+use Rattle.phrase.specs.Reading as Phrase
+use Rattle.line.specs.Reading as Line
+
+unfoldable openBytes : ℕ
+unfolding Text.text Text.same Lists.span Checksum.total Checksum.checksum
+openBytes = 0
+
+unfoldable openNumbers : ℕ
+unfolding Number.valueOf Number.scan Number.digitsFrom Number.startsHex Number.unsignedFrom Number.readAddress Number.readNumber Number.readPair
+openNumbers = 0
+
+unfoldable openWords : ℕ
+unfolding Words.isSpace Words.noSpace Words.grow Words.cut Words.headWord Words.tailWords Find.meaningOf Settings.nameOf
+openWords = 0
+
+unfoldable openPhrase : ℕ
+unfolding Phrase.ended Phrase.oneNumber Phrase.readMove Phrase.readSetting Phrase.readGet Phrase.readSet Phrase.readStorepos Phrase.readParking Phrase.readTools Phrase.readWarnings Phrase.readCommand Phrase.echoOf
+openPhrase = 0
+
+unfoldable openLine : ℕ
+unfolding Line.printable Line.noColon Line.isEnd Line.isFooter Line.checked Line.parted Line.afterSlash Line.slashed Line.frameOf Line.startsNumber Line.axisDigit Line.axisOf Line.readWords Line.readLine Line.wordsOf Line.readAsked
+openLine = 0
+
+unfoldable pub reading : ℕ
+unfolding openBytes openNumbers openWords openPhrase openLine
+reading = 0
