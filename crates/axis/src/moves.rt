@@ -1,0 +1,47 @@
+// What a command makes of an axis: a move, and a stored position.
+// An axis that may not do it stays as it is.
+ghost use mathlib.Core.Path.{_≡_};
+ghost use Rattle.axis.specs.Moves.{moved as movedTo, store as storeAt, cleared as clearedOf};
+use crate::Axis;
+use crate::Motion;
+use crate::travel::is_place;
+use command::Target;
+use units::Number;
+use units::Position;
+use units::Reach;
+
+impl Axis {
+    // To the target, if the axis may move there.
+    pub fn moved(self, t: Target) -> Axis
+        ensures { λ r. ⌜ r ≡ movedTo t self ⌝ }
+    {
+        match self.aim(t) {
+            Reach::At(p) => self.with_motion(Motion::To(p)),
+            Reach::Beyond => self,
+        }
+    }
+
+    // With p under the number n, from 1 to 16.
+    pub fn store(mut self, n: Number, p: Position) -> Axis
+        ensures { λ r. ⌜ r ≡ storeAt n p self ⌝ }
+    {
+        let k = n.place();
+        if k < 1 {
+            return self;
+        }
+        if 16 < k {
+            return self;
+        }
+        let i = k - 1;
+        self.stored[i] = p;
+        self
+    }
+
+    // All warnings cleared but FD and WR.
+    pub fn cleared(mut self) -> Axis
+        ensures { λ r. ⌜ r ≡ clearedOf self ⌝ }
+    {
+        self.warnings = self.warnings % 2;
+        self
+    }
+}

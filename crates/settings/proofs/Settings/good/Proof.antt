@@ -1,0 +1,69 @@
+use Rattle.laws.specs.Lists.{fold}
+use Rattle.laws.proofs.Bools.{and-true}
+use Rattle.command.specs.Settings.{axisSettings}
+use borrow.Author.Needs.{needs}
+use Rattle.settings.proofs.Settings.good.Statement.{statement}
+use Rattle.settings.proofs.Settings.good.Tie as tie
+
+in-range-requires : tie.Need-in-range-requires
+in-range-requires c κs = search needs
+
+in-range-requires-2 : tie.Need-in-range-requires-2
+in-range-requires-2 c κs = search needs
+
+in-range-requires-3 : tie.Need-in-range-requires-3
+in-range-requires-3 c κs = search needs
+
+in-range-requires-4 : tie.Need-in-range-requires-4
+in-range-requires-4 c κs = search needs
+
+in-range-requires-5 : tie.Need-in-range-requires-5
+in-range-requires-5 c κs = search needs
+
+in-range-requires-6 : tie.Need-in-range-requires-6
+in-range-requires-6 c κs = search needs
+
+in-range-requires-7 : tie.Need-in-range-requires-7
+in-range-requires-7 c κs = search needs
+
+in-range-requires-8 : tie.Need-in-range-requires-8
+in-range-requires-8 c κs = search needs
+
+in-range-requires-9 : tie.Need-in-range-requires-9
+in-range-requires-9 c κs = search needs
+
+in-range-requires-10 : tie.Need-in-range-requires-10
+in-range-requires-10 c κs = search needs
+
+returns : tie.Need-returns
+unfolding fold axisSettings
+returns c =
+    simp (
+      and-true,
+      c .in-range10 .ensures,
+      c .before .in-range9 .ensures,
+      c .before .before .in-range8 .ensures,
+      c .before .before .before .in-range7 .ensures,
+      c .before .before .before .before .in-range6 .ensures,
+      c .before .before .before .before .before .in-range5 .ensures,
+      c .before .before .before .before .before .before .in-range4 .ensures,
+      c .before .before .before .before .before .before .before .in-range3 .ensures,
+      c .before .before .before .before .before .before .before .before .in-range2 .ensures,
+      c .before .before .before .before .before .before .before .before .before .in-range .ensures,
+    )
+
+pub good-spec : {M : Type 1} → statement M
+good-spec =
+    tie.close
+    (tie.spec
+    in-range-requires
+    in-range-requires-2
+    in-range-requires-3
+    in-range-requires-4
+    in-range-requires-5
+    in-range-requires-6
+    in-range-requires-7
+    in-range-requires-8
+    in-range-requires-9
+    in-range-requires-10
+    returns)

@@ -1,0 +1,62 @@
+-- Document 01's table of settings: each one's range, where an axis keeps it, and the axis's settings with another value.
+-- Names, access and when a setting may be written are in the crate `command`.
+use mathlib.Core.Bool.{Bool}
+use lib.IntN.{pos}
+use Rattle.units.specs.Units.{minus, position, speed, number, _to_, within}
+use Rattle.settings.specs.Types.{Number, Range, AxisSetting, Pos, LimitMin, LimitMax, MaxSpeed, Accel, DriverCurrentMax, DriverCurrentRun, DriverCurrentHold, DriverDir, EncoderIndexCount, DeviceSetting, CommAddress, CommAlert, CommChecksum, SystemAccess, DeviceId, SystemAxisCount, Setting, OfAxis, OfDevice, Settings}
+use Rattle.settings.specs.Record.{settings, limit, current}
+
+-- a range's ends may be other settings of the axis: "min not above max", "0 to driver.current.max"
+abbrev pub range : AxisSetting → Settings → Range
+range Pos s = minus 1000000000 to pos 1000000000
+range LimitMin s = minus 1000000000 to s .limit .max .0
+range LimitMax s = s .limit .min .0 to pos 1000000000
+range MaxSpeed s = pos 1 to pos 1000000000
+range Accel s = pos 0 to pos 32767
+range DriverCurrentMax s = pos 0 to pos 255
+range DriverCurrentRun s = pos 0 to s .current .max .0
+range DriverCurrentHold s = pos 0 to s .current .max .0
+range DriverDir s = pos 0 to pos 1
+range EncoderIndexCount s = minus 32768 to pos 32767
+
+abbrev pub deviceRange : DeviceSetting → Range
+deviceRange CommAddress = pos 1 to pos 99
+deviceRange CommAlert = pos 0 to pos 1
+deviceRange CommChecksum = pos 0 to pos 1
+deviceRange SystemAccess = pos 1 to pos 2
+deviceRange DeviceId = pos 0 to pos 2147483647
+deviceRange SystemAxisCount = pos 1 to pos 4
+
+-- the value that an axis has
+abbrev pub value : AxisSetting → Settings → Number
+value Pos s = number (s .pos .0)
+value LimitMin s = number (s .limit .min .0)
+value LimitMax s = number (s .limit .max .0)
+value MaxSpeed s = number (s .maxspeed .0)
+value Accel s = s .accel
+value DriverCurrentMax s = s .current .max
+value DriverCurrentRun s = s .current .run
+value DriverCurrentHold s = s .current .hold
+value DriverDir s = s .dir
+value EncoderIndexCount s = s .index
+
+abbrev pub inRange : Settings → AxisSetting → Bool
+inRange s x = within (range x s) (value x s .0)
+
+-- an axis's settings with one of them set to n; what is read only stays
+abbrev pub put : AxisSetting → Number → Settings → Settings
+put Pos n s = settings (position (n .0)) (s .limit) (s .maxspeed) (s .accel) (s .current) (s .dir) (s .index)
+put LimitMin n s = settings (s .pos) (limit (position (n .0)) (s .limit .max)) (s .maxspeed) (s .accel) (s .current) (s .dir) (s .index)
+put LimitMax n s = settings (s .pos) (limit (s .limit .min) (position (n .0))) (s .maxspeed) (s .accel) (s .current) (s .dir) (s .index)
+put MaxSpeed n s = settings (s .pos) (s .limit) (speed (n .0)) (s .accel) (s .current) (s .dir) (s .index)
+put Accel n s = settings (s .pos) (s .limit) (s .maxspeed) n (s .current) (s .dir) (s .index)
+put DriverCurrentMax n s = s
+put DriverCurrentRun n s = settings (s .pos) (s .limit) (s .maxspeed) (s .accel) (current (s .current .max) n (s .current .hold)) (s .dir) (s .index)
+put DriverCurrentHold n s = settings (s .pos) (s .limit) (s .maxspeed) (s .accel) (current (s .current .max) (s .current .run) n) (s .dir) (s .index)
+put DriverDir n s = settings (s .pos) (s .limit) (s .maxspeed) (s .accel) (s .current) n (s .index)
+put EncoderIndexCount n s = settings (s .pos) (s .limit) (s .maxspeed) (s .accel) (s .current) (s .dir) n
+
+-- whether n may be a setting's value
+abbrev pub allows : Setting → Number → Settings → Bool
+allows (OfAxis x) n s = within (range x s) (n .0)
+allows (OfDevice x) n s = within (deviceRange x) (n .0)
