@@ -1,0 +1,85 @@
+-- What each command demands of the device and of each axis that it concerns, and what it makes of such an axis.
+-- One line a row of document 01's table of commands.
+use mathlib.Core.Bool.{Bool, true, false, _&&_}
+use Prim.Native.Nat.{ℕ}
+use Rattle.command.specs.Settings.{about, ofDevice, onlyAtRest}
+use Rattle.settings.specs.Settings.{allows, put}
+use Rattle.axis.specs.Record.{withSettings, withMotion, moving, stopped}
+use Rattle.axis.specs.Travel.{isPlace, mayMoveTo, mayRunAt, mayStore}
+use Rattle.axis.specs.Moves.{moved, store, cleared}
+use Rattle.orders.specs.Types.{Number, Setting, OfAxis, OfDevice, Command, Nothing, Home, Stop, Estop, MoveTo, MoveVel, Get, Set, Storepos, StoreposAt, StoreposCurrent, Warnings, WarningsClear, ParkingState, Park, Unpark, Echo, Idle, Homing, At, Axis}
+
+-- scope and access; whether only an unparked device takes it; which axes are too busy for it; which axes permit its values
+pub record Demands : Type 0 where
+  pub device : Bool
+  pub access : ℕ
+  pub unparked : Bool
+  pub busy : Axis → Bool
+  pub permits : Axis → Bool
+
+abbrev row : Bool → ℕ → Bool → (Axis → Bool) → (Axis → Bool) → Demands
+row d a u b p = record { device = d; access = a; unparked = u; busy = b; permits = p }
+
+-- the words of the table's columns
+abbrev ofAxes : Bool
+ofAxes = false
+
+abbrev device : Bool
+device = true
+
+abbrev unparked : Bool
+unparked = true
+
+abbrev anytime : Bool
+anytime = false
+
+abbrev never : Axis → Bool
+never a = false
+
+abbrev always : Axis → Bool
+always a = true
+
+-- scope; access; "On a parked device home, move, stop and estop are rejected"; STATUSBUSY: "set of pos, limit.min,
+-- limit.max or driver.dir on a moving axis, and park with an axis moving"; what the axis permits
+abbrev pub demands : Command → Demands
+demands Nothing = row ofAxes 1 anytime never always
+demands Home = row ofAxes 1 unparked never always
+demands Stop = row ofAxes 1 unparked never always
+demands Estop = row ofAxes 1 unparked never always
+demands (MoveTo t) = row ofAxes 1 unparked never (mayMoveTo t)
+demands (MoveVel v) = row ofAxes 1 unparked never (mayRunAt v)
+demands (Get s) = row (ofDevice s) (about s .get) anytime never always
+demands (Set s n) = row (ofDevice s) (about s .set) anytime (λ a. onlyAtRest s && moving a) (λ a. allows s n (a .settings))
+demands (Storepos n) = row ofAxes 1 anytime never (λ a. isPlace n)
+demands (StoreposAt n p) = row ofAxes 1 anytime never (mayStore n p)
+demands (StoreposCurrent n) = row ofAxes 1 anytime never (λ a. mayStore n (a .settings .pos) a)
+demands Warnings = row ofAxes 1 anytime never always
+demands WarningsClear = row ofAxes 1 anytime never always
+demands ParkingState = row device 1 anytime never always
+demands Park = row device 1 anytime moving always
+demands Unpark = row device 1 anytime never always
+demands Echo = row device 1 anytime never always
+
+abbrev pub putSetting : Setting → Number → Axis → Axis
+putSetting (OfAxis s) n a = withSettings (put s n (a .settings)) a
+putSetting (OfDevice s) n a = a
+
+-- one axis that the command concerns: "home: homing"; "estop: idle at once"; "A move on a moving axis replaces the motion."
+abbrev pub axisAfter : Command → Axis → Axis
+axisAfter Nothing a = a
+axisAfter Home a = withMotion Homing a
+axisAfter Stop a = stopped a
+axisAfter Estop a = withMotion Idle a
+axisAfter (MoveTo t) a = moved t a
+axisAfter (MoveVel v) a = withMotion (At v) a
+axisAfter (Get s) a = a
+axisAfter (Set s n) a = putSetting s n a
+axisAfter (Storepos n) a = a
+axisAfter (StoreposAt n p) a = store n p a
+axisAfter (StoreposCurrent n) a = store n (a .settings .pos) a
+axisAfter Warnings a = a
+axisAfter WarningsClear a = cleared a
+axisAfter ParkingState a = a
+axisAfter Park a = a
+axisAfter Unpark a = a
+axisAfter Echo a = a
