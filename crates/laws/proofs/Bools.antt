@@ -1,7 +1,7 @@
 -- Tests taken together, and what a test that passed says.
 -- Assumes nothing.
 use mathlib.Core.Path.{_≡_, refl, sym, subst, _∙_}
-use mathlib.Core.Bool.{Bool, true, false, _&&_, true≢false}
+use mathlib.Core.Bool.{Bool, true, false, not, _&&_, _||_, true≢false}
 use lib.Dec.{T}
 
 -- both halves of a test that passed
@@ -28,6 +28,10 @@ and-assoc false b c = refl
 pub and-both : (a b : Bool) → a ≡ true → b ≡ true → (a && b) ≡ true
 and-both true b p q = q
 and-both false b p q = p
+
+pub or-not : (a b : Bool) → (a || not b) ≡ not (not a && b)
+or-not true b = refl
+or-not false b = refl
 
 pub is-true : {b : Bool} → b ≡ true → T b
 is-true e = subst T (sym e) tt

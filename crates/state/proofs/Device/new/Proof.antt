@@ -1,0 +1,14 @@
+use Rattle.state.specs.Record.{fresh}
+use borrow.Author.Needs.{needs}
+use Rattle.state.proofs.Device.new.Statement.{statement}
+use Rattle.state.proofs.Device.new.Tie as tie
+
+fresh-requires : tie.Need-fresh-requires
+fresh-requires c κs = search needs
+
+returns : tie.Need-returns
+unfolding fresh
+returns c = simp (c .fresh .ensures)
+
+pub new-spec : {M : Type 1} → statement M
+new-spec = tie.close (tie.spec fresh-requires returns)

@@ -1,0 +1,111 @@
+// The device record, by value: its settings, four axis places, and the fresh record.
+// What commands and reports do to it is in the crate `device`.
+ghost use mathlib.Core.Path.{_≡_};
+ghost use Rattle.state.specs.Record.{value as valueOf, put as putOf, withParked, fresh as freshOf};
+use axis::Axis;
+use command::DeviceSetting;
+use units::Number;
+
+// comm.address, comm.alert and comm.checksum.
+pub struct Comm {
+    pub address: Number,
+    pub alert: Number,
+    pub checksum: Number,
+}
+
+// The device record: `access` is system.access, `id` is deviceid, `count` is system.axiscount.
+pub struct Device {
+    pub comm: Comm,
+    pub access: Number,
+    pub id: Number,
+    pub count: u8,
+    pub parked: bool,
+    pub axes: [Axis; 4],
+}
+
+// The number of a refusal, or 0, and the next record.
+pub struct Outcome {
+    pub number: u8,
+    pub next: Device,
+}
+
+impl Device {
+    pub fn value(self, s: DeviceSetting) -> Number
+        ensures { λ r. ⌜ r ≡ valueOf s self ⌝ }
+    {
+        let count = Number::of_count(self.count);
+        match s {
+            DeviceSetting::CommAddress => self.comm.address,
+            DeviceSetting::CommAlert => self.comm.alert,
+            DeviceSetting::CommChecksum => self.comm.checksum,
+            DeviceSetting::SystemAccess => self.access,
+            DeviceSetting::DeviceId => self.id,
+            DeviceSetting::SystemAxisCount => count,
+        }
+    }
+
+    // The device with one of its settings set to n; what is read only stays.
+    pub fn put(mut self, s: DeviceSetting, n: Number) -> Device
+        ensures { λ r. ⌜ r ≡ putOf s n self ⌝ }
+    {
+        let mut comm = self.comm;
+        match s {
+            DeviceSetting::CommAddress => {
+                comm.address = n;
+                self.comm = comm;
+            }
+            DeviceSetting::CommAlert => {
+                comm.alert = n;
+                self.comm = comm;
+            }
+            DeviceSetting::CommChecksum => {
+                comm.checksum = n;
+                self.comm = comm;
+            }
+            DeviceSetting::SystemAccess => {
+                self.access = n;
+            }
+            DeviceSetting::DeviceId => {}
+            DeviceSetting::SystemAxisCount => {}
+        }
+        self
+    }
+
+    pub fn with_parked(mut self, parked: bool) -> Device
+        ensures { λ r. ⌜ r ≡ withParked parked self ⌝ }
+    {
+        self.parked = parked;
+        self
+    }
+
+    pub fn new(address: Number, count: u8, id: Number) -> Device
+        ensures { λ r. ⌜ r ≡ freshOf address count id ⌝ }
+    {
+        let zero = Number(0);
+        let comm = Comm {
+            address,
+            alert: zero,
+            checksum: zero,
+        };
+        let access = Number(1);
+        let axis = Axis::fresh();
+        Device {
+            comm,
+            access,
+            id,
+            count,
+            parked: false,
+            axes: [axis; 4],
+        }
+    }
+
+    // This record as the next one, beside a number.
+    pub fn beside(self, number: u8) -> Outcome
+        ensures { λ r. ⌜ r ≡ record { number = number; next = self } ⌝ }
+    {
+        Outcome { number, next: self }
+    }
+}
+
+pub mod each;
+pub mod good;
