@@ -30,38 +30,23 @@ use Rattle.data.proofs.Writing.{Writing, writing-if, writing-more, writ
 unfoldable pub decimals : List Number → List (List ℕ)
 decimals ns = map (λ n. decimal (n .0)) ns
 
-module _ (v : List Number) (count n : ℕ) (e : n ≡ min count 4) (four : length v ≡ 4) where
-  enough : take count v ≡ take n v
-  enough =
-      ⊎-elim (λ (h : 4 < count). let q : n ≡ 4 = omega arith in rw q (take-all count v (omega arith) ∙ sym (take-all 4 v (omega arith))))
-      (λ h. let q : n ≡ count = omega arith in rw q)
-      (lt-or-le 4 count)
-
-  size : length (take n v) ≡ n
-  size = length-take n v ∙ omega arith
-
-  pub values-none : n ≡ 0 → values (take count v) ≡ []
+module _ (ns : List Number) where
+  pub values-none : length ns ≡ 0 → values ns ≡ []
   unfolding values spaced
-  values-none z = rw (enough, z)
+  values-none h = rw (drop-of-length-le ns {i = 0} (omega arith))
 
-  pub values-some : (d : Number) → (n ≡ 0 → ⊥) → values (take count v) ≡ decimal (getD v 0 d .0) ++ trail (decimals (drop 1 (take n v)))
+  pub values-some : (d : Number) → 0 < length ns → values ns ≡ decimal (getD ns 0 d .0) ++ trail (decimals (drop 1 ns))
   unfolding values decimals
-  values-some d z =
-      let h : 0 < length (take n v) = omega (arith, size) in
-      rw enough (rw (drop-cons (take n v) 0 d h) (spaced-trail _ _ ∙ rw (getD-take n v 0 d (omega arith))))
+  values-some d h = rw (drop-cons ns 0 d h) (spaced-trail _ _)
 
   module _ (i : ℕ) where
-    pub values-more : (d : Number) → i < n → decimals (drop i (take n v)) ≡ decimal (getD v i d .0) ∷ decimals (drop (i + 1) (take n v))
+    pub values-more : (d : Number) → i < length ns → decimals (drop i ns) ≡ decimal (getD ns i d .0) ∷ decimals (drop (i + 1) ns)
     unfolding decimals
-    values-more d h =
-        let l : i < length (take n v) = omega (arith, size) in
-        rw (drop-cons (take n v) i d l, getD-take n v i d h, add-one)
+    values-more d h = rw (drop-cons ns i d h, add-one)
 
-    pub values-end : n ≤ i → decimals (drop i (take n v)) ≡ []
+    pub values-end : length ns ≤ i → decimals (drop i ns) ≡ []
     unfolding decimals
-    values-end h =
-        let l : length (take n v) ≤ i = omega (arith, size) in
-        rw (drop-of-length-le (take n v) l)
+    values-end h = rw (drop-of-length-le ns h)
 
 -- ---- the list of warnings
 pub list-split : (m : ℕ) → warningList m ≡ twoDigits (count (bits 8 m)) ++ trail (named (bits 8 m) warningNames)

@@ -6,11 +6,9 @@ ghost use lib.Dec.{eqb};
 ghost use lib.ListN.{take, drop};
 ghost use Rattle.words.specs.Cutting.{cut};
 ghost use Rattle.wire.specs.Wrote.{Wrote};
-ghost use Rattle.data.specs.Data.{values, warningList, echoed, refusalName};
+ghost use Rattle.data.specs.Data.{warningList, echoed, refusalName};
 ghost use Rattle.data.specs.Parts.{warningAt, nameIf, wordIf};
-use units::Number;
 use wire::put_byte;
-use wire::put_signed;
 use wire::put_text;
 use wire::put_two;
 
@@ -72,24 +70,6 @@ fn put_if(buf: &mut [u8], at: usize, bit: u32, place: u32) -> usize
     } else {
         at
     }
-}
-
-// The first values, up to four.
-pub fn put_values(buf: &mut [u8], at: usize, v: [Number; 4], count: usize) -> usize
-    ensures { λ r. ⌜ Wrote (now (buf .entry)) at (values (take count v)) (now (buf .exit)) r ⌝ }
-{
-    let n = lesser(count, 4);
-    if n == 0 {
-        return at;
-    }
-    let mut next = put_signed(buf, at, v[0]);
-    let mut i: usize = 1;
-    while i < n {
-        let gap = put_byte(buf, next, b' ');
-        next = put_signed(buf, gap, v[i]);
-        i += 1;
-    }
-    next
 }
 
 // A word behind a space, if there is one.

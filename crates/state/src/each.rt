@@ -27,9 +27,9 @@ pub enum Change {
 }
 
 // Some neighbouring axis places.
-struct Part {
-    from: usize,
-    many: usize,
+pub struct Part {
+    pub from: usize,
+    pub many: usize,
 }
 
 fn passes(a: Axis, t: Test) -> bool
@@ -111,7 +111,7 @@ impl Device {
     }
 
     // The axis places that k means; there are four.
-    fn part(self, k: u64) -> Part
+    pub fn part(self, k: u64) -> Part
         ensures { λ r. ⌜ r ≡ partOf (manyOf self k) k ⌝ }
     {
         let from = least(before(k), 4);

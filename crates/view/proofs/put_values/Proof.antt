@@ -1,0 +1,30 @@
+-- `view::put_values` meets its contract: the values of the axes that the number means.
+-- Assumes nothing.
+use Rattle.state.proofs.Parts.{part-inside, part-axes}
+use Rattle.view.specs.View.{valuesOf}
+use borrow.Author.Needs.{needs}
+use Rattle.view.proofs.put_values.Statement.{statement}
+use Rattle.view.proofs.put_values.Tie as tie
+use Rattle.view.proofs.put_values.Reads as reads
+use Rattle.view.proofs.put_values.Lts as lts
+use Rattle.state.proofs.Device.part.Reads as part-reads
+use Rattle.view.proofs.put_list.Reads as put-list-reads
+
+part-requires : tie.Need-part-requires
+part-requires c κs = search needs
+
+put-list-requires : tie.Need-put-list-requires
+put-list-requires c κs = part-inside _ _ _ (c .before .part .ensures)
+
+same-length : tie.Need-same-length
+same-length c = search needs
+
+returns : tie.Need-returns
+unfolding valuesOf
+returns c =
+    let list = c .before .before in
+    let a = c .before .before .before .before .before .before .before .args in
+    rw (part-axes (a .d) (a .k) _ (list .put-list .ensures .0) (list .before .before .part .ensures)) at (list .put-list .ensures .1)
+
+pub put-values-spec : {M : Type 1} → statement M
+put-values-spec = tie.close (tie.spec part-requires put-list-requires same-length returns)

@@ -1,0 +1,21 @@
+use Rattle.view.specs.View.{shownAxis}
+use borrow.Author.Tests.{le-leb, lt-leb}
+use borrow.Author.Needs.{needs}
+use Rattle.view.proofs.shown_axis.Statement.{statement}
+use Rattle.view.proofs.shown_axis.Tie as tie
+use Rattle.view.proofs.shown_axis.Reads as reads
+use Rattle.view.proofs.shown_axis.Lts as lts
+
+cast-if1 : tie.Need-cast-if1
+cast-if1 c = search needs
+
+returns : tie.Need-returns
+unfolding shownAxis
+returns c = simp (le-leb _ _ (c .if1 .taken))
+
+returns-2 : tie.Need-returns-2
+unfolding shownAxis
+returns-2 c = simp (lt-leb _ _ (c .if1 .left))
+
+pub shown-axis-spec : {M : Type 1} → statement M
+shown-axis-spec = tie.close (tie.spec cast-if1 returns returns-2)

@@ -1,0 +1,49 @@
+-- What a reply shows of a record: status, highest warning, and the values of the axes that a number means.
+-- "A reply describes the record after the command."
+use mathlib.Core.Bool.{Bool, cond, not}
+use mathlib.Core.List.{List, map}
+use Prim.Native.Nat.{ℕ}
+use lib.Dec.{leb}
+use Rattle.laws.specs.Lists.{any}
+use Rattle.units.specs.Units.{number, place}
+use Rattle.units.specs.declared.Number.{Number}
+use Rattle.flags.specs.Flags.{mask, active, union}
+use Rattle.settings.specs.Settings.{value}
+use Rattle.axis.specs.declared.Axis.{Axis}
+use Rattle.axis.specs.Record.{moving}
+use Rattle.axis.specs.Travel.{stored}
+use Rattle.state.specs.declared.Device.{Device}
+use Rattle.state.specs.Record.{axesOf}
+use Rattle.reply.specs.declared.Head.{Head}
+use Rattle.view.specs.declared.Value.{Value}
+use Rattle.view.specs.declared.Value.the-variants.{Of, Stored, Pos}
+
+-- "WR is active exactly when the axis has no reference."
+unfoldable pub activeOf : Axis → List Bool
+activeOf a = active (a .warnings) (not (a .reference))
+
+-- "axis 0 takes the union over all axes"
+unfoldable pub warningsOf : Device → ℕ → ℕ
+warningsOf d k = mask (union activeOf (axesOf d k))
+
+-- "Its axis is the one sent, or 0 if that exceeds the axis count."
+unfoldable pub shownAxis : Device → ℕ → ℕ
+shownAxis d k = cond (leb k (d .count)) k 0
+
+-- "For axis 0 BUSY means some axis moves."
+unfoldable pub busy : Device → ℕ → Bool
+busy d k = any moving (axesOf d k)
+
+-- what stands before the data, of the record d and the axis k that was sent
+unfoldable pub headOf : Device → ℕ → Bool → Head
+headOf d k ok = let s = shownAxis d k in record { address = place (d .comm .address .0); axis = s; ok = ok; busy = busy d s; warnings = warningsOf d s }
+
+-- what is listed of an axis: a setting, a stored position, or its position
+abbrev pub valueIn : Value → Axis → Number
+valueIn (Of s) a = value s (a .settings)
+valueIn (Stored n) a = number (stored n a .0)
+valueIn Pos a = number (a .settings .pos .0)
+
+-- "Values for axis 0 are listed from axis 1"
+unfoldable pub valuesOf : Value → Device → ℕ → List Number
+valuesOf v d k = map (valueIn v) (axesOf d k)

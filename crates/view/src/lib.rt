@@ -1,0 +1,115 @@
+// What a reply shows of a record: its head, and the values of the axes that a number means.
+// Each is said in specs/View.antt, in document 01's words.
+ghost use mathlib.Core.Path.{_≡_};
+ghost use mathlib.Core.List.{map};
+ghost use Prim.Native.Nat.{_+_, _≤_};
+ghost use lib.ListN.{length, take, drop};
+ghost use Rattle.flags.specs.Flags.{mask, union};
+ghost use Rattle.wire.specs.Wrote.{Wrote};
+ghost use Rattle.data.specs.Data.{values};
+ghost use Rattle.view.specs.View.{activeOf, warningsOf, shownAxis, headOf, valueIn, valuesOf};
+use axis::Axis;
+use command::AxisSetting;
+use reply::Head;
+use state::Device;
+use units::Number;
+use wire::put_byte;
+use wire::put_signed;
+
+// What is listed of an axis.
+pub enum Value {
+    Of(AxisSetting),
+    Stored(Number),
+    Pos,
+}
+
+fn flags_of(a: Axis) -> u32
+    ensures { λ r. ⌜ r ≡ mask (activeOf a) ⌝ }
+{
+    let referred = a.reference;
+    flags::active(a.warnings, !referred)
+}
+
+fn join(axes: [Axis; 4], from: usize, many: usize) -> u32
+    requires { ⌜ from + many ≤ 4 ⌝ }
+    ensures { λ r. ⌜ (length axes ≡ 4) × (r ≡ mask (union activeOf (take many (drop from axes)))) ⌝ }
+{
+    let mut all: u32 = 0;
+    let mut n: usize = 0;
+    while n < many {
+        let i = from + n;
+        let a = axes[i];
+        all = flags::union(all, flags_of(a));
+        n = n + 1;
+    }
+    all
+}
+
+// The warnings of the axes that k means, as a mask.
+pub fn warnings(d: Device, k: u64) -> u32
+    ensures { λ r. ⌜ r ≡ warningsOf d k ⌝ }
+{
+    let axes = d.axes;
+    let p = d.part(k);
+    join(axes, p.from, p.many)
+}
+
+fn shown_axis(d: Device, k: u64) -> u64
+    ensures { λ r. ⌜ r ≡ shownAxis d k ⌝ }
+{
+    if k <= d.count as u64 { k } else { 0 }
+}
+
+// What stands before the data.
+pub fn head(d: Device, k: u64, ok: bool) -> Head
+    ensures { λ r. ⌜ r ≡ headOf d k ok ⌝ }
+{
+    let axis = shown_axis(d, k);
+    Head {
+        address: d.comm.address.place() as u64,
+        axis,
+        ok,
+        busy: d.moving(axis),
+        warnings: warnings(d, axis),
+    }
+}
+
+fn value_of(a: Axis, v: Value) -> Number
+    ensures { λ r. ⌜ r ≡ valueIn v a ⌝ }
+{
+    let s = a.settings;
+    match v {
+        Value::Of(x) => s.value(x),
+        Value::Stored(n) => a.stored_at(n).number(),
+        Value::Pos => s.pos.number(),
+    }
+}
+
+fn put_list(buf: &mut [u8], at: usize, axes: [Axis; 4], v: Value, from: usize, many: usize) -> usize
+    requires { ⌜ from + many ≤ 4 ⌝ }
+    ensures { λ r. ⌜ (length axes ≡ 4) × Wrote (now (buf .entry)) at (values (map (valueIn v) (take many (drop from axes)))) (now (buf .exit)) r ⌝ }
+{
+    if many == 0 {
+        return at;
+    }
+    let first = axes[from];
+    let mut next = put_signed(buf, at, value_of(first, v));
+    let mut n: usize = 1;
+    while n < many {
+        let gap = put_byte(buf, next, b' ');
+        let i = from + n;
+        let a = axes[i];
+        next = put_signed(buf, gap, value_of(a, v));
+        n = n + 1;
+    }
+    next
+}
+
+// The values of the axes that k means.
+pub fn put_values(buf: &mut [u8], at: usize, d: Device, k: u64, v: Value) -> usize
+    ensures { λ r. ⌜ Wrote (now (buf .entry)) at (values (valuesOf v d k)) (now (buf .exit)) r ⌝ }
+{
+    let axes = d.axes;
+    let p = d.part(k);
+    put_list(buf, at, axes, v, p.from, p.many)
+}
