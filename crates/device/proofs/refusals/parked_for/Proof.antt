@@ -1,0 +1,14 @@
+use Rattle.device.specs.Refusals.{parked}
+use borrow.Author.Needs.{needs}
+use Rattle.device.proofs.refusals.parked_for.Statement.{statement}
+use Rattle.device.proofs.refusals.parked_for.Tie as tie
+
+unparked-requires : tie.Need-unparked-requires
+unparked-requires c κs = search needs
+
+returns : tie.Need-returns
+unfolding parked
+returns c = simp (c .unparked .ensures)
+
+pub parked-for-spec : {M : Type 1} → statement M
+parked-for-spec = tie.close (tie.spec unparked-requires returns)
