@@ -1,3 +1,4 @@
 pub mod Types
 pub mod Spelling
 pub mod Reading
+pub mod Writing
