@@ -1,0 +1,15 @@
+-- `host::data_byte` meets its contract: its three tests are the rule's.
+-- Assumes nothing.
+use mathlib.Core.Path.{refl}
+use Rattle.host.specs.Reading.{dataByte}
+use Rattle.host.proofs.data_byte.Statement.{statement}
+use Rattle.host.proofs.data_byte.Tie as tie
+use Rattle.host.proofs.data_byte.Reads as reads
+use Rattle.host.proofs.data_byte.Lts as lts
+
+returns : tie.Need-returns
+unfolding dataByte
+returns c = refl
+
+pub data-byte-spec : {M : Type 1} → statement M
+data-byte-spec = tie.close (tie.spec returns)

@@ -1,0 +1,28 @@
+-- `host::field` meets its contract: the front of what is left.
+-- Assumes nothing.
+use mathlib.Core.Path.{ap, _∙_}
+use native.Mathlib.Omega.{arith}
+use lib.ListN.{take, length-take}
+use Rattle.host.proofs.Parts.{front-is}
+use borrow.Author.Needs.{needs}
+use Rattle.host.proofs.field.Statement.{statement}
+use Rattle.host.proofs.field.Tie as tie
+use Rattle.host.proofs.field.Reads as reads
+use Rattle.host.proofs.field.Lts as lts
+use Rattle.data.proofs.lesser.Reads as lesser-reads
+use Rattle.host.proofs.rest.Reads as rest-reads
+
+rest-requires : tie.Need-rest-requires
+rest-requires c κs = search needs
+
+lesser-requires : tie.Need-lesser-requires
+lesser-requires c κs = search needs
+
+slice-aggregate-result : tie.Need-slice-aggregate-result
+slice-aggregate-result c = simp length-take (omega arith)
+
+returns : tie.Need-returns
+returns c = rw (← c .before .before .rest .ensures) (front-is _ _ _ (c .before .lesser .ensures))
+
+pub field-spec : {M : Type 1} → statement M
+field-spec = tie.close (tie.spec rest-requires lesser-requires slice-aggregate-result returns)

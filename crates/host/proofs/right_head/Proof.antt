@@ -1,0 +1,15 @@
+-- `host::right_head` meets its contract: its five tests are the rule's.
+-- Assumes nothing.
+use mathlib.Core.Path.{refl}
+use Rattle.host.specs.Reading.{rightHead}
+use Rattle.host.proofs.right_head.Statement.{statement}
+use Rattle.host.proofs.right_head.Tie as tie
+use Rattle.host.proofs.right_head.Reads as reads
+use Rattle.host.proofs.right_head.Lts as lts
+
+returns : tie.Need-returns
+unfolding rightHead
+returns c = refl
+
+pub right-head-spec : {M : Type 1} → statement M
+right-head-spec = tie.close (tie.spec returns)

@@ -1,0 +1,27 @@
+-- `host::says_sum` meets its contract: a pair that is none says no sum.
+-- Assumes nothing.
+use Rattle.host.proofs.Parts.{sum-said}
+use borrow.Author.Needs.{needs}
+use Rattle.host.proofs.says_sum.Statement.{statement}
+use Rattle.host.proofs.says_sum.Tie as tie
+use Rattle.host.proofs.says_sum.Reads as reads
+use Rattle.host.proofs.says_sum.Lts as lts
+use Rattle.number.proofs.checksum.Reads as checksum-reads
+
+enum-known-p : tie.Need-enum-known-p
+enum-known-p c = search needs
+
+checksum-requires : tie.Need-checksum-requires
+checksum-requires c κs = search needs
+
+enum-told : tie.Need-enum-told
+enum-told c = search needs
+
+returns : tie.Need-returns
+returns c = sum-said _ _ _ _ (c .before .before .p .given .1) (c .checksum .ensures)
+
+returns-2 : tie.Need-returns-2
+returns-2 c = search needs
+
+pub says-sum-spec : {M : Type 1} → statement M
+says-sum-spec = tie.close (tie.spec enum-known-p checksum-requires enum-told returns returns-2)
