@@ -1,3 +1,5 @@
 pub mod Parts
 pub mod Heads
 pub mod Answers
+pub mod Spelled
+pub mod Replies
