@@ -3,3 +3,5 @@ pub mod Heads
 pub mod Answers
 pub mod Spelled
 pub mod Replies
+pub mod Cases
+pub mod ReadsBack

@@ -46,10 +46,10 @@ unfolding twoOf
 two-digits {t = t} {u} x y = simp (digit-value (omega arith) x, digit-value (omega arith) y, lt-ltb t 10 (digit-below x), lt-ltb u 10 (digit-below y))
 
 -- a line whose marks stand in their places, with its fields between them
-abbrev lineOf : ℕ → ℕ → ℕ → List ℕ → List ℕ → List ℕ → List ℕ → List ℕ
+abbrev pub lineOf : ℕ → ℕ → ℕ → List ℕ → List ℕ → List ℕ → List ℕ → List ℕ
 lineOf c b k v s w d = text "@" ++ spaced ((c ∷ b ∷ []) ∷ (k ∷ []) ∷ v ∷ s ∷ w ∷ d ∷ [])
 
-abbrev fieldsOf : ℕ → ℕ → ℕ → List ℕ → List ℕ → List ℕ → Head
+abbrev pub fieldsOf : ℕ → ℕ → ℕ → List ℕ → List ℕ → List ℕ → Head
 fieldsOf c b k v s w =
     record {
       address = twoOf (valueOf c) (valueOf b);
@@ -60,13 +60,13 @@ fieldsOf c b k v s w =
     }
 
 -- what is found in it
-record Found (c b k : ℕ) (v s w d e : List ℕ) : Type 0 where
-  marks : marked (lineOf c b k v s w d ++ e) ≡ true
-  head : headIn (lineOf c b k v s w d ++ e) ≡ fieldsOf c b k v s w
-  behind : drop 17 (lineOf c b k v s w d ++ e) ≡ d ++ e
-  front : length (lineOf c b k v s w d) ≡ 17 + length d
+pub record Found (c b k : ℕ) (v s w d e : List ℕ) : Type 0 where
+  pub marks : marked (lineOf c b k v s w d ++ e) ≡ true
+  pub head : headIn (lineOf c b k v s w d ++ e) ≡ fieldsOf c b k v s w
+  pub behind : drop 17 (lineOf c b k v s w d ++ e) ≡ d ++ e
+  pub front : length (lineOf c b k v s w d) ≡ 17 + length d
 
-found : (c b k : ℕ) {v s w : List ℕ} (d e : List ℕ) → Two v → Four s → Two w → Found c b k v s w d e
+pub found : (c b k : ℕ) {v s w : List ℕ} (d e : List ℕ) → Two v → Four s → Two w → Found c b k v s w d e
 unfolding marked stands field headIn text same spaced
 found c b k d e two four two = record { marks = refl; head = refl; behind = refl; front = omega arith }
 

@@ -1,0 +1,122 @@
+-- Every reply that the device writes is read by the host as what was put in, with a checksum and without.
+-- It is so because the reply's text is a spelling of that reply. Assumes nothing.
+use mathlib.Core.Path.{_≡_, refl, sym, ap, subst, _∙_}
+use mathlib.Core.Bool.{Bool, true, false, cond}
+use mathlib.Core.List.{List, [], _∷_, _++_}
+use Prim.Native.Nat.{ℕ, zero, suc, _+_, _*_, _/_, _%_, _≤_, _<_}
+use native.Mathlib.Omega.{arith}
+use native.Mathlib.Nat.{mod-eq-of-lt}
+use lib.Dec.{ltb}
+use lib.ListN.{length, length-append}
+use borrow.Author.Tests.{le-ltb}
+use Rattle.laws.specs.Text.{text, spaced}
+use Rattle.number.specs.Checksum.{checksum}
+use Rattle.number.specs.Decimal.{lastDigit, digits, twoDigits, hexPair}
+use Rattle.number.specs.Spelling.{Digit}
+use Rattle.number.proofs.Decimal.{digits-one, pair-spelled}
+use Rattle.flags.specs.Flags.{warningNames, bits, first}
+use Rattle.data.specs.Parts.{warningAt}
+use Rattle.reply.specs.Reply.{verdict, status, highest, body, ending, reply}
+use Rattle.reply.specs.declared.Head.{Head}
+use Rattle.reply.proofs.Texts.{highest-is, ending-sum, ending-bare}
+use Rattle.host.specs.Spelling.{Address, Axis, Verdict, accepted, rejected, Status, idle, busy, Warning, fd, fq, fs, ft, fb, fp, fe, wr, Data, End, bare, summed}
+use Rattle.host.specs.Spelling as spelling
+use Rattle.host.specs.Reading.{readReply}
+use Rattle.host.specs.declared.Heard.{Heard}
+use Rattle.host.specs.declared.ReplyRead.the-variants.{Reply}
+use Rattle.host.proofs.Spelled.{verdict-two, status-four, warning-two}
+use Rattle.host.proofs.Replies.{found, reply-read}
+
+-- the place of the highest flag of a mask, from 1; 0 where there is none
+abbrev placeOf : ℕ → ℕ
+placeOf k = cond (ltb k 8) (suc k) 0
+
+abbrev pub highestPlace : ℕ → ℕ
+highestPlace m = placeOf (first (bits 8 m))
+
+-- what was put in
+abbrev pub heardOf : Head → List ℕ → Heard
+heardOf h words = record { address = h .address; axis = h .axis; ok = h .ok; busy = h .busy; warning = highestPlace (h .warnings); length = length words }
+
+-- ---- the texts of the fields
+figure : (n : ℕ) → Digit 10 (48 + n % 10) (n % 10)
+figure n = Digit.figure (omega arith) (omega arith) refl
+
+address-spelled : (n : ℕ) → 1 ≤ n → n ≤ 99 → Address (twoDigits n) n
+unfolding twoDigits
+address-spelled n some h =
+    let e : n / 10 % 10 * 10 + n % 10 ≡ n = omega arith in
+    subst (Address (twoDigits n)) e (Address.two (figure (n / 10)) (figure n) (omega arith))
+
+axis-spelled : (k : ℕ) → k ≤ 9 → Axis (digits k) k
+unfolding lastDigit
+axis-spelled k h =
+    let small : k < 10 = omega arith in
+    rw (digits-one k small) (subst (Axis (lastDigit k)) (mod-eq-of-lt small) (Axis.one (figure k)))
+
+verdict-spelled : (ok : Bool) → Verdict (verdict ok) ok
+unfolding verdict
+verdict-spelled true = accepted
+verdict-spelled false = rejected
+
+status-spelled : (t : Bool) → Status (status t) t
+unfolding status
+status-spelled true = busy
+status-spelled false = idle
+
+warning-spelled : (k : ℕ) → Warning (warningAt k) (placeOf k)
+unfolding warningAt warningNames
+warning-spelled zero = fd
+warning-spelled (suc zero) = fq
+warning-spelled (suc (suc zero)) = fs
+warning-spelled (suc (suc (suc zero))) = ft
+warning-spelled (suc (suc (suc (suc zero)))) = fb
+warning-spelled (suc (suc (suc (suc (suc zero))))) = fp
+warning-spelled (suc (suc (suc (suc (suc (suc zero)))))) = fe
+warning-spelled (suc (suc (suc (suc (suc (suc (suc zero))))))) = wr
+warning-spelled (suc (suc (suc (suc (suc (suc (suc (suc k)))))))) = rw (le-ltb (suc (suc (suc (suc (suc (suc (suc (suc k)))))))) 8 (omega arith)) Warning.none
+
+highest-spelled : (m : ℕ) → Warning (highest m) (highestPlace m)
+highest-spelled m = rw (← highest-is m) (warning-spelled (first (bits 8 m)))
+
+-- ---- the end
+sum-byte : (s : List ℕ) → checksum s < 256
+unfolding checksum
+sum-byte s = omega arith
+
+end-spelled : (sum : Bool) (s : List ℕ) → End s (ending sum s)
+end-spelled true s = rw (ending-sum true s refl) (summed (pair-spelled (checksum s) (sum-byte s)))
+end-spelled false s = rw (ending-bare false s refl) bare
+
+end-length : (sum : Bool) (s : List ℕ) → length (ending sum s) ≤ 5
+unfolding text hexPair
+end-length true s = rw (ending-sum true s refl) (omega arith)
+end-length false s = rw (ending-bare false s refl) (omega arith)
+
+-- ---- the whole
+module _ (h : Head) (sum : Bool) (words : List ℕ) (some : 1 ≤ h .address) (most : h .address ≤ 99) (one : h .axis ≤ 9) (said : Data words) (short : length words ≤ 74) where
+  head-length : length (text "@" ++ body h words) ≡ 17 + length words
+  unfolding body twoDigits lastDigit
+  head-length =
+      rw (digits-one (h .axis) (omega arith))
+      (found _ _ _ words [] (verdict-two (verdict-spelled (h .ok))) (status-four (status-spelled (h .busy))) (warning-two (highest-spelled (h .warnings))) .front)
+
+  fits : length (reply h sum words) ≤ 96
+  unfolding reply
+  fits = rw length-append (omega (arith, head-length, end-length sum (body h words)))
+
+  pub reply-spelled : spelling.Reply (reply h sum words) (heardOf h words)
+  unfolding reply body
+  reply-spelled =
+      spelling.reply
+      (address-spelled (h .address) some most)
+      (axis-spelled (h .axis) one)
+      (verdict-spelled (h .ok))
+      (status-spelled (h .busy))
+      (highest-spelled (h .warnings))
+      said
+      (end-spelled sum (body h words))
+      fits
+
+  pub reads-back : readReply (reply h sum words) ≡ Reply (heardOf h words)
+  reads-back = reply-read reply-spelled
