@@ -179,7 +179,7 @@ fn read_addressed(s: &[u8], at: usize, a: UnsignedRead) -> LineRead
 }
 
 // The words of a content.
-fn read_words(s: &[u8]) -> LineRead
+pub fn read_words(s: &[u8]) -> LineRead
     ensures { λ r. ⌜ r ≡ readWords (cut (now (s .entry))) ⌝ }
 {
     let w = words::first_word(s, 0);

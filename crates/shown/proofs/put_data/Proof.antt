@@ -1,0 +1,26 @@
+-- `shown::put_data` meets its contract: what the command's reply shows.
+-- Assumes nothing.
+use Rattle.shown.specs.Data.{dataOf}
+use borrow.Author.Needs.{needs}
+use Rattle.shown.proofs.put_data.Statement.{statement}
+use Rattle.shown.proofs.put_data.Tie as tie
+use Rattle.shown.proofs.put_data.Reads as reads
+use Rattle.shown.proofs.put_data.Lts as lts
+use Rattle.shown.proofs.put_shown.Reads as put-shown-reads
+use Rattle.shown.proofs.shown_by.Reads as shown-by-reads
+
+shown-by-requires : tie.Need-shown-by-requires
+shown-by-requires c κs = search needs
+
+put-shown-requires : tie.Need-put-shown-requires
+put-shown-requires c κs = search needs
+
+same-length : tie.Need-same-length
+same-length c = search needs
+
+returns : tie.Need-returns
+unfolding dataOf
+returns c = rw (c .before .before .before .shown-by .ensures) at (c .before .before .put-shown .ensures)
+
+pub put-data-spec : {M : Type 1} → statement M
+put-data-spec = tie.close (tie.spec shown-by-requires put-shown-requires same-length returns)
