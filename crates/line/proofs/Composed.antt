@@ -59,16 +59,16 @@ plain-of (c ∷ b) k j =
         (eq-or-ne c 32)
 
 -- ---- footers
-end-yes : {c : ℕ} → End c → isEnd c ≡ true
+pub end-yes : {c : ℕ} → End c → isEnd c ≡ true
 unfolding isEnd
 end-yes End.cr = refl
 end-yes End.lf = refl
 
-end-low : {c : ℕ} → End c → c < 32
+pub end-low : {c : ℕ} → End c → c < 32
 end-low End.cr = omega arith
 end-low End.lf = omega arith
 
-end-of : (c : ℕ) → isEnd c ≡ true → End c
+pub end-of : (c : ℕ) → isEnd c ≡ true → End c
 unfolding isEnd
 end-of c e =
     ⊎-elim (λ h. rw h End.cr)
@@ -76,16 +76,16 @@ end-of c e =
     (λ k. let z : _≡_ {A = ℕ} 0 1 = cc (ne-eqb c 13 h, ne-eqb c 10 k) in absurd (omega arith)) (eq-or-ne c 10))
     (eq-or-ne c 13)
 
-footer-yes : {f : List ℕ} → Footer f → isFooter f ≡ true
+pub footer-yes : {f : List ℕ} → Footer f → isFooter f ≡ true
 unfolding isFooter
 footer-yes (Footer.one h) = end-yes h
 footer-yes (Footer.two h k) = rw (end-yes h) (end-yes k)
 
-footer-stops : {f : List ℕ} → Footer f → span printable f ≡ 0
+pub footer-stops : {f : List ℕ} → Footer f → span printable f ≡ 0
 footer-stops (Footer.one {c} h) = span-not printable c [] (low c (end-low h))
 footer-stops (Footer.two {c} {d} h k) = span-not printable c (d ∷ []) (low c (end-low h))
 
-footer-of : (f : List ℕ) → isFooter f ≡ true → Footer f
+pub footer-of : (f : List ℕ) → isFooter f ≡ true → Footer f
 unfolding isFooter
 footer-of [] e = let z : _≡_ {A = ℕ} 0 1 = cc in absurd (omega arith)
 footer-of (c ∷ []) e = Footer.one (end-of c e)
@@ -145,7 +145,7 @@ sum-of c n s (x ∷ h ∷ l ∷ []) b e = go (saysSum s (readPair h l)) refl e
 sum-of c n s (x ∷ h ∷ l ∷ y ∷ r) b e = let z : _≡_ {A = ℕ} 0 1 = cc in absurd (omega arith)
 
 -- where the bytes before the first colon end, a colon stands
-stop-byte : (l : List ℕ) → 0 < length (drop (span noColon l) l) → getD (drop (span noColon l) l) 0 0 ≡ 58
+pub stop-byte : (l : List ℕ) → 0 < length (drop (span noColon l) l) → getD (drop (span noColon l) l) 0 0 ≡ 58
 stop-byte [] h = let y = rw (span-none noColon) at h in absurd (omega arith)
 stop-byte (c ∷ l) h =
     ⊎-elim (λ e. rw (span-not noColon c l (colon-not c e)) e)
@@ -216,7 +216,7 @@ tail-of t n len q = go (isFooter (drop (span printable t) t)) refl
         compose t e n le (plain-of (take n x) (take-passes printable n x (front-passes printable t)) j) (body-of x n r) (footer-of (drop e t) h) len
     go false h = let z : _≡_ {A = ℕ} 0 1 = cc (tail-not t (span printable t) refl h) in absurd (omega arith)
 
-slash-cons : (l : List ℕ) → getD l 0 0 ≡ 47 → l ≡ 47 ∷ drop 1 l
+pub slash-cons : (l : List ℕ) → getD l 0 0 ≡ 47 → l ≡ 47 ∷ drop 1 l
 slash-cons [] h = absurd (omega arith)
 slash-cons (x ∷ l) h = rw h
 

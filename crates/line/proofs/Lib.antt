@@ -3,3 +3,4 @@ pub mod Steps
 pub mod Composed
 pub mod Demand3
 pub mod Cases
+pub mod Refused

@@ -1,0 +1,71 @@
+-- Document 01's table of refusals, as far as a line alone can be refused: when each applies, said apart from the others.
+-- Nothing here says in what order a line is looked at. proofs/Refused.antt shows that the reading agrees for every line.
+use mathlib.Core.Bool.{Bool, true, false, cond, not, _&&_, _||_}
+use mathlib.Core.List.{List, [], _∷_}
+use Prim.Native.Nat.{ℕ, _-_}
+use lib.Dec.{eqb, ltb, leb}
+use lib.ListN.{length, getD, take, drop}
+use Rattle.laws.specs.Lists.{all}
+use Rattle.laws.specs.Text.{slash, colon}
+use Rattle.laws.specs.Refusals.{_when_, firstOf}
+use Rattle.number.specs.Reading.{readAddress, readPair}
+use Rattle.number.specs.declared.UnsignedRead.{UnsignedRead}
+use Rattle.number.specs.declared.UnsignedRead.the-variants as Unsigned
+use Rattle.words.specs.Cutting.{cut, headWord, tailWords}
+use Rattle.phrase.specs.Refusals.{badCommand, badData}
+use Rattle.line.specs.Reading.{printable, noColon, isEnd, saysSum, startsNumber, axisDigit}
+
+-- how many bytes the footer has: "one or two bytes, each CR or LF", at the end; none where the last byte is neither
+unfoldable pub footerSize : List ℕ → ℕ
+footerSize l = cond (isEnd (getD l (length l - 1) 0)) (cond (isEnd (getD l (length l - 2) 0)) 2 1) 0
+
+-- the bytes between `/` and footer
+unfoldable pub body : List ℕ → List ℕ
+body l = take (length l - 1 - footerSize l) (drop 1 l)
+
+-- 2, "over 80 bytes"
+unfoldable pub tooLong : List ℕ → Bool
+tooLong l = ltb 80 (length l)
+
+-- 1, "no `/` first, no footer, or a forbidden byte"
+unfoldable pub notLine : List ℕ → Bool
+notLine l = not (eqb (getD l 0 0) slash) || (eqb (footerSize l) 0 || not (all printable (body l)))
+
+-- the last three bytes of b are the checksum of those before them: "A colon stands nowhere else"
+unfoldable pub checksumRight : List ℕ → Bool
+checksumRight b =
+    let s = take (length b - 3) b in
+    leb 3 (length b) && (eqb (getD b (length b - 3) 0) colon && (all noColon s && saysSum s (readPair (getD b (length b - 2) 0) (getD b (length b - 1) 0))))
+
+-- 3, "colon out of place, bad digits or wrong sum"
+unfoldable pub badSum : List ℕ → Bool
+badSum b = not (all noColon b) && not (checksumRight b)
+
+-- the content of a body: all of it, or what stands before its checksum
+unfoldable pub content : List ℕ → List ℕ
+content b = cond (all noColon b) b (take (length b - 3) b)
+
+-- 4, "address word outside the rule": "A first word that begins with a digit, `+` or `-` is always the address word."
+abbrev pub isAddress : UnsignedRead → Bool
+isAddress (Unsigned.Value n) = true
+isAddress (Unsigned.Refused p) = false
+
+unfoldable pub badAddress : List (List ℕ) → Bool
+badAddress ws = startsNumber (headWord ws) && not (isAddress (readAddress (headWord ws)))
+
+-- the command's own words: those behind the address word and the axis word, where these stand
+unfoldable pub own : List (List ℕ) → List (List ℕ)
+own ws = cond (startsNumber (headWord ws)) (cond (ltb (axisDigit (headWord (tailWords ws))) 10) (drop 2 ws) (drop 1 ws)) ws
+
+-- the number of a line's refusal, where ws are the words of its content: 2, 1, 3, 4, 10, 11, in this order; 0 where none applies
+unfoldable pub refusalOf : List ℕ → ℕ
+refusalOf l =
+    let ws = cut (content (body l)) in
+    firstOf
+    (2 when tooLong l
+    ∷ 1 when notLine l
+    ∷ 3 when badSum (body l)
+    ∷ 4 when badAddress ws
+    ∷ 10 when badCommand (own ws)
+    ∷ 11 when badData (own ws)
+    ∷ [])
