@@ -4,3 +4,4 @@ pub mod Composed
 pub mod Demand3
 pub mod Cases
 pub mod Refused
+pub mod Every

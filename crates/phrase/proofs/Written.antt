@@ -76,12 +76,15 @@ digit-byte h (figure l t e) = record { low = omega arith; high = omega arith; no
 digit-byte h (capital l t e) = record { low = omega arith; high = omega arith; no-colon = λ z. omega arith }
 digit-byte h (small l t e) = record { low = omega arith; high = omega arith; no-colon = λ z. omega arith }
 
+pub digit-word : {b c d : ℕ} → b ≤ 16 → Digit b c d → Word (c ∷ [])
+digit-word h x = Word.one (digit-byte h x)
+
 word-more : {w : List ℕ} {c : ℕ} → Word w → WordByte c → Word (w ++ c ∷ [])
 word-more (Word.one h) k = Word.more h (Word.one k)
 word-more (Word.more h w) k = Word.more h (word-more w k)
 
 digits-word : {b : ℕ} {s : List ℕ} {n : ℕ} → b ≤ 16 → Digits b s n → Word s
-digits-word h (Digits.one x) = Word.one (digit-byte h x)
+digits-word h (Digits.one x) = digit-word h x
 digits-word h (Digits.more r x) = word-more (digits-word h r) (digit-byte h x)
 
 pub unsigned-word : {s : List ℕ} {n : ℕ} → UnsignedWord s n → Word s

@@ -41,7 +41,7 @@ pub data Plain : List ℕ → Type 0 where
   space : {s : List ℕ} → Plain s → Plain (32 ∷ s)
   byte : {c : ℕ} {s : List ℕ} → WordByte c → Plain s → Plain (c ∷ s)
 
-content-space : {s : List ℕ} {ws : List (List ℕ)} → Content s ws → Content (32 ∷ s) ws
+pub content-space : {s : List ℕ} {ws : List (List ℕ)} → Content s ws → Content (32 ∷ s) ws
 content-space (blank p) = blank (Spaces.more p)
 content-space (last p w) = last (Spaces.more p) w
 content-space (next p w k) = next (Spaces.more p) w k
