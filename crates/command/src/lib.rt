@@ -188,7 +188,7 @@ impl Setting {
     }
 
     // When it may be written.
-    pub fn writing(self) -> Writing
+    fn writing(self) -> Writing
         ensures { λ r. ⌜ r ≡ about self .writing ⌝ }
     {
         match self {

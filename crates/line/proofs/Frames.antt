@@ -16,7 +16,7 @@ use Rattle.laws.proofs.Lists.{rest}
 use Rattle.laws.proofs.Span.{span-le}
 use Rattle.number.specs.Reading.{readPair}
 use Rattle.number.specs.declared.PairRead.{PairRead}
-use Rattle.line.specs.Reading.{printable, noColon, isEnd, isFooter, saysSum, checked, parted, afterSlash, slashed, frameOf}
+use Rattle.line.specs.Reading.{printable, noColon, isEnd, isFooter, saysSum, checked, parted, afterSlash, slashed, most, frameOf}
 use Rattle.line.specs.declared.Frame.{Frame}
 use Rattle.line.specs.declared.Frame.the-variants.{Content, Refused}
 
@@ -124,24 +124,24 @@ module _ (t : List ℕ) (e : ℕ) (at : e ≡ span printable t) where
   tail-fits = rw at (span-le printable t)
 
 module _ (l : List ℕ) where
-  pub too-long : 80 < length l → frameOf l ≡ Refused 2
+  pub too-long : most < length l → frameOf l ≡ Refused 2
   unfolding frameOf
-  too-long h = rw (lt-ltb 80 (length l) h)
+  too-long h = rw (lt-ltb most (length l) h)
 
 pub empty : (l : List ℕ) → length l ≡ 0 → frameOf l ≡ Refused 1
 unfolding frameOf slashed
 empty [] h = refl
 empty (x ∷ l) h = absurd (omega arith)
 
-pub no-slash : (l : List ℕ) → length l ≤ 80 → (getD l 0 0 ≡ 47 → ⊥) → frameOf l ≡ Refused 1
+pub no-slash : (l : List ℕ) → length l ≤ most → (getD l 0 0 ≡ 47 → ⊥) → frameOf l ≡ Refused 1
 unfolding frameOf slashed
 no-slash [] h e = refl
-no-slash (x ∷ l) h e = rw (le-ltb 80 (length (x ∷ l)) h, ne-eqb x 47 e)
+no-slash (x ∷ l) h e = rw (le-ltb most (length (x ∷ l)) h, ne-eqb x 47 e)
 
-pub slash-first : (l : List ℕ) → length l ≤ 80 → getD l 0 0 ≡ 47 → frameOf l ≡ afterSlash (drop 1 l)
+pub slash-first : (l : List ℕ) → length l ≤ most → getD l 0 0 ≡ 47 → frameOf l ≡ afterSlash (drop 1 l)
 unfolding frameOf slashed
 slash-first [] h e = absurd (omega arith)
-slash-first (x ∷ l) h e = rw (le-ltb 80 (length (x ∷ l)) h, eq-eqb x 47 e)
+slash-first (x ∷ l) h e = rw (le-ltb most (length (x ∷ l)) h, eq-eqb x 47 e)
 
 -- a content that is found lies within its line
 checked-fits : (c n : ℕ) (b r : List ℕ) → checked c b r ≡ Content n → n ≡ c
@@ -181,7 +181,7 @@ slashed-content (c ∷ t) n e = go (eqb c slash) e
 
 pub content-fits : (l : List ℕ) {r : Frame} (n : ℕ) → r ≡ frameOf l → r ≡ Content n → n < length l
 unfolding frameOf
-content-fits l n q h = go (ltb 80 (length l)) (sym q ∙ h)
+content-fits l n q h = go (ltb most (length l)) (sym q ∙ h)
   where
     go : (b : Bool) → cond b (Refused 2) (slashed l) ≡ Content n → n < length l
     go true e = let z : _≡_ {A = ℕ} 0 1 = cc in absurd (omega arith)

@@ -66,8 +66,12 @@ unfoldable pub slashed : List ℕ → Frame
 slashed [] = Frame.Refused 1
 slashed (c ∷ t) = cond (eqb c slash) (afterSlash t) (Frame.Refused 1)
 
+-- "at most 80 bytes in all"
+abbrev pub most : ℕ
+most = 80
+
 unfoldable pub frameOf : List ℕ → Frame
-frameOf l = cond (ltb 80 (length l)) (Frame.Refused 2) (slashed l)
+frameOf l = cond (ltb most (length l)) (Frame.Refused 2) (slashed l)
 
 -- ---- address and axis: 4
 

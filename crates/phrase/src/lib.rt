@@ -137,7 +137,7 @@ fn setting_at(k: usize) -> SettingRead
 }
 
 // The setting that a word names.
-pub fn read_setting(w: &[u8]) -> SettingRead
+fn read_setting(w: &[u8]) -> SettingRead
     ensures { λ r. ⌜ r ≡ readSetting (now (w .entry)) ⌝ }
 {
     setting_at(words::find_word(
