@@ -33,6 +33,15 @@ pub or-not : (a b : Bool) → (a || not b) ≡ not (not a && b)
 or-not true b = refl
 or-not false b = refl
 
+-- both halves of a test of two that failed
+pub or-left : (a b : Bool) → (a || b) ≡ false → a ≡ false
+or-left true b h = h
+or-left false b h = refl
+
+pub or-right : (a b : Bool) → (a || b) ≡ false → b ≡ false
+or-right true b h = absurd (true≢false h)
+or-right false b h = h
+
 pub is-true : {b : Bool} → b ≡ true → T b
 is-true e = subst T (sym e) tt
 

@@ -1,19 +1,19 @@
 -- Every command whose parts are in range and whose line fits is read from some line: a reader that refuses everything is shut out.
 -- Assumes nothing.
-use mathlib.Core.Path.{_≡_, refl, sym, subst}
-use mathlib.Core.List.{List, [], _∷_, _++_, append-nil}
+use mathlib.Core.Path.{_≡_, refl, subst}
+use mathlib.Core.List.{List, _++_, append-nil}
 use mathlib.Core.Option.{some}
-use Prim.Native.Nat.{ℕ, _+_, _%_, _≤_, _<_}
+use Prim.Native.Nat.{ℕ, _+_, _≤_, _<_}
 use native.Mathlib.Omega.{arith}
 use native.Mathlib.Nat.{mod-eq-of-lt}
 use lib.ListN.{length}
-use Rattle.laws.specs.Text.{text, space, spaced}
+use Rattle.laws.proofs.Each.{Each}
+use Rattle.laws.specs.Text.{text, spaced}
 use Rattle.number.specs.Spelling.{Digit, AddressWord, address}
-use Rattle.number.specs.Decimal.{lastDigit, twoDigits, digits}
+use Rattle.number.specs.Decimal.{lastDigit, digits}
 use Rattle.number.proofs.Decimal.{digits-one, address-spelled}
 use Rattle.words.specs.Spelling.{Spaces, Word, Content, blank, last, next}
 use Rattle.words.proofs.Content.{content-space}
-use Rattle.phrase.specs.Writing.{commandWords, EachWord}
 use Rattle.phrase.proofs.Written.{row-written, written-words, unsigned-word, digit-word}
 use Rattle.line.specs.Spelling.{Asked, AxisWord, Footer, End, Checksum, Words, with-axis, Line, line}
 use Rattle.line.specs.Reading.{readAsked}
@@ -21,11 +21,11 @@ use Rattle.line.specs.Writing.{contentFor, lineFor, InRange}
 use Rattle.line.proofs.Demand3.{demand-3}
 
 -- words with single spaces between are composed of these words
-spaced-content : {ws : List (List ℕ)} → EachWord ws → Content (spaced ws) ws
+spaced-content : {ws : List (List ℕ)} → Each Word ws → Content (spaced ws) ws
 unfolding spaced
-spaced-content EachWord.none = blank Spaces.none
-spaced-content (EachWord.more w EachWord.none) = last Spaces.none w
-spaced-content (EachWord.more w (EachWord.more v r)) = next Spaces.none w (content-space (spaced-content (EachWord.more v r)))
+spaced-content Each.none = blank Spaces.none
+spaced-content (Each.more w Each.none) = last Spaces.none w
+spaced-content (Each.more w (Each.more v r)) = next Spaces.none w (content-space (spaced-content (Each.more v r)))
 
 axis-spelled : (k : ℕ) → k ≤ 9 → AxisWord (digits k) k
 unfolding lastDigit
@@ -48,7 +48,7 @@ unfolding lineFor contentFor
 every-line a h fits =
     let x = address-spelled (a .address) (h .address) in
     let y = axis-spelled (a .axis) (h .axis) in
-    unsummed (spaced-content (EachWord.more (address-word x) (EachWord.more (axis-word y) (written-words (a .command) (a .echo) (h .command)))))
+    unsummed (spaced-content (Each.more (address-word x) (Each.more (axis-word y) (written-words (a .command) (a .echo) (h .command)))))
     (with-axis x y (row-written (a .command) (a .echo) (h .command))) fits
 
 -- Every command whose parts are in range, and whose line fits, is read from that line.

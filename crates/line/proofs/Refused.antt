@@ -2,7 +2,7 @@
 -- Assumes nothing.
 use mathlib.Core.Path.{_≡_, refl, sym, ap, _∙_}
 use mathlib.Core.Logic.{⊎-elim}
-use mathlib.Core.Bool.{Bool, true, false, cond, not, _||_}
+use mathlib.Core.Bool.{Bool, true, false, cond, not}
 use mathlib.Core.List.{List, [], _∷_, _++_}
 use Prim.Native.Nat.{ℕ, suc, _+_, _-_, _≤_, _<_}
 use native.Mathlib.Omega.{arith}
@@ -10,18 +10,18 @@ use lib.Dec.{eqb, ltb, leb}
 use lib.ListN.{length, getD, take, drop, length-append, length-drop, length-take, take-append-drop, drop-of-length-le}
 use lib.Seq.{take-append-seam, drop-append-seam, take-append-le, drop-cons, getD-append-add, take-all}
 use borrow.Author.Tests.{lt-ltb, le-ltb, le-leb, eq-eqb, ne-eqb, eqb-true, leb-true, not-false}
-use Rattle.laws.specs.Lists.{span, fold, all}
+use Rattle.laws.specs.Lists.{span, all}
 use Rattle.laws.specs.Refusals.{_when_, firstOf}
 use Rattle.laws.proofs.Order.{lt-or-le, eq-or-ne}
-use Rattle.laws.proofs.Bools.{clash, and-left, and-right}
-use Rattle.laws.proofs.Span.{span-none, span-not, span-le}
-use Rattle.laws.proofs.Passes.{Passes, pass-cons, pass-head, pass-append, front-passes}
+use Rattle.laws.proofs.Bools.{clash, and-left, and-right, or-left, or-right}
+use Rattle.laws.proofs.Span.{span-not, span-le}
+use Rattle.laws.proofs.Passes.{Passes, pass-head, pass-append, front-passes, passes-all, all-passes}
 use Rattle.number.specs.Reading.{readAddress, readPair}
 use Rattle.number.specs.declared.UnsignedRead.{UnsignedRead}
 use Rattle.number.specs.declared.UnsignedRead.the-variants as Unsigned
 use Rattle.words.specs.Cutting.{cut, headWord, tailWords}
 use Rattle.phrase.specs.Reading.{readCommand}
-use Rattle.phrase.specs.Refusals.{badCommand, badData, wordsNumber}
+use Rattle.phrase.specs.Refusals.{badCommand, badData, wordsNumber, wordsRefusal}
 use Rattle.phrase.specs.declared.WordsRead.{WordsRead}
 use Rattle.phrase.specs.declared.WordsRead.the-variants as Read
 use Rattle.phrase.proofs.Refused.{words-refused}
@@ -30,22 +30,11 @@ use Rattle.line.specs.Reading.{printable, noColon, isEnd, isFooter, says
 use Rattle.line.specs.Refusals.{footerSize, body, tooLong, notLine, checksumRight, badSum, content, badAddress, own, refusalOf}
 use Rattle.line.specs.declared.Frame.{Frame}
 use Rattle.line.specs.declared.Frame.the-variants as Frame
+use Rattle.line.specs.declared.LineRead.{LineRead}
 use Rattle.line.specs.declared.LineRead.the-variants.{Addressed}
 use Rattle.line.proofs.Frames.{low, between, colon-not, no-sum, not-3, sum-is, tail-yes, tail-not, too-long, no-slash, slash-first}
 use Rattle.line.proofs.Steps.{starts-none}
 use Rattle.line.proofs.Composed.{end-yes, end-low, end-of, footer-yes, footer-stops, footer-of, stop-byte, slash-cons}
-
--- ---- tests over a whole list
-module _ (p : ℕ → Bool) where
-  all-yes : (l : List ℕ) → Passes p l → all p l ≡ true
-  unfolding fold
-  all-yes [] k = refl
-  all-yes (c ∷ l) k = let r = pass-head p c l (p c) refl k in simp (r .0, all-yes l (r .1))
-
-  all-of : (l : List ℕ) → all p l ≡ true → Passes p l
-  unfolding fold
-  all-of [] e = span-none p
-  all-of (c ∷ l) e = pass-cons p c l (and-left (p c) (all p l) e) (all-of l (and-right (p c) (all p l) e))
 
 -- ---- bytes from the end of a line, whose body is b and whose footer is f
 at-end : (x : ℕ) (b f : List ℕ) (i : ℕ) → getD (x ∷ (b ++ f)) (suc (length b + i)) 0 ≡ getD f i 0
@@ -104,7 +93,7 @@ module _ (b f : List ℕ) (k : Passes printable b) (g : Footer f) where
 
   is-line : notLine (47 ∷ (b ++ f)) ≡ false
   unfolding notLine
-  is-line = simp (body-is, all-yes printable b k, foot-size b k g, ne-eqb (length f) 0 (footer-some g))
+  is-line = simp (body-is, passes-all printable b k, foot-size b k g, ne-eqb (length f) 0 (footer-some g))
 
 -- ---- a line that 1 does not refuse has a body and a footer
 record Split (t : List ℕ) : Type 0 where
@@ -123,16 +112,8 @@ last-one t n h =
 last-two : (t : List ℕ) (n : ℕ) → length t ≡ suc (suc n) → drop n t ≡ getD t n 0 ∷ getD t (suc n) 0 ∷ []
 last-two t n h = let k : n < length t = omega arith in rw (drop-cons t n 0 k, last-one t (suc n) h)
 
-or-left : (a b : Bool) → (a || b) ≡ false → a ≡ false
-or-left true b h = h
-or-left false b h = refl
-
-or-right : (a b : Bool) → (a || b) ≡ false → b ≡ false
-or-right true b h = clash refl h
-or-right false b h = h
-
 split-at : (t : List ℕ) (n : ℕ) (f : List ℕ) → drop n t ≡ f → Footer f → all printable (take n t) ≡ true → Split t
-split-at t n f q g e = record { front = take n t; back = drop n t; whole = take-append-drop n t; passes = all-of printable (take n t) e; footer = rw q g }
+split-at t n f q g e = record { front = take n t; back = drop n t; whole = take-append-drop n t; passes = all-passes printable (take n t) e; footer = rw q g }
 
 split-size : (t : List ℕ) (i : ℕ) (a b : Bool) → length t - 1 ≡ i → isEnd (getD (47 ∷ t) (length t) 0) ≡ a → isEnd (getD (47 ∷ t) i 0) ≡ b
     → eqb (footerSize (47 ∷ t)) 0 ≡ false → all printable (body (47 ∷ t)) ≡ true → Split t
@@ -169,7 +150,7 @@ some-colon b h = go (all noColon b) refl
   where
     go : (t : Bool) → all noColon b ≡ t → all noColon b ≡ false
     go false e = e
-    go true e = absurd (omega (arith, all-of noColon b e))
+    go true e = absurd (omega (arith, all-passes noColon b e))
 
 -- the last three bytes begin at the first colon
 module _ (b : List ℕ) (n : ℕ) (is : n ≡ span noColon b) (h : n < length b) (three : length b - n ≡ 3) where
@@ -181,7 +162,7 @@ module _ (b : List ℕ) (n : ℕ) (is : n ≡ span noColon b) (h : n < length b)
       let r : length b - 1 ≡ n + 2 = omega arith in
       let l : 3 ≤ length b = omega arith in
       let c : getD b n 0 ≡ 58 = rw is (colon-here b (rw is at h)) in
-      let a : all noColon (take n b) ≡ true = rw is (all-yes noColon (take (span noColon b) b) (front-passes noColon b)) in
+      let a : all noColon (take n b) ≡ true = rw is (passes-all noColon (take (span noColon b) b) (front-passes noColon b)) in
       simp (p, q, r, le-leb 3 (length b) l, eq-eqb (getD b n 0) 58 c, a)
 
   sums-at : (t : Bool) → saysSum (take n b) (readPair (getD b (n + 1) 0) (getD b (n + 2) 0)) ≡ t → Sums b
@@ -201,7 +182,7 @@ first-colon b e =
     let e2 = and-right (leb 3 (length b)) _ e in
     let l : 3 ≤ length b = leb-true 3 (length b) (and-left (leb 3 (length b)) _ e) in
     let c : getD b m 0 ≡ 58 = eqb-true (getD b m 0) 58 (and-left (eqb (getD b m 0) 58) _ e2) in
-    let a : Passes noColon s = all-of noColon s (and-left (all noColon s) _ (and-right (eqb (getD b m 0) 58) _ e2)) in
+    let a : Passes noColon s = all-passes noColon s (and-left (all noColon s) _ (and-right (eqb (getD b m 0) 58) _ e2)) in
     let k : m < length b = omega arith in
     let d : span noColon (drop m b) ≡ 0 = rw (drop-cons b m 0 k) (span-not noColon (getD b m 0) (drop (suc m) b) (colon-not (getD b m 0) c)) in
     let q : span noColon b ≡ length s = ap (span noColon) (sym (take-append-drop m b)) ∙ pass-append noColon s (drop m b) a d in
@@ -219,7 +200,7 @@ sums b =
     ⊎-elim (λ h. ⊎-elim (λ k. sums-at b n refl h k _ refl) (λ k. sums-not b h k (checksumRight b) refl) (eq-or-ne (length b - n) 3))
     (λ h. let j = span-le noColon b in
     let p : Passes noColon b = omega arith in
-    let a = all-yes noColon b p in
+    let a = passes-all noColon b p in
     good n (simp a) (no-sum b n refl h) j (rw a (take-all n b h)))
     (lt-or-le n (length b))
 
@@ -233,7 +214,7 @@ fromWords ws = firstOf (4 when badAddress ws ∷ 10 when badCommand (own ws) ∷
 
 axis-refused : (w : List ℕ) (n : ℕ) (t : List (List ℕ)) (b : Bool) → startsNumber w ≡ true → readAddress w ≡ Unsigned.Value n → ltb (axisDigit (headWord t)) 10 ≡ b
     → numberOf (axisOf n t) ≡ fromWords (w ∷ t)
-unfolding axisOf badAddress own firstOf headWord tailWords
+unfolding axisOf badAddress own wordsRefusal firstOf headWord tailWords
 axis-refused w n t false s q e = simp (s, q, e) (addressed-number n 0 1 (readCommand t) ∙ words-refused t)
 axis-refused w n [] true s q e = simp (s, q, e) (addressed-number n (axisDigit []) 2 (readCommand []) ∙ words-refused [])
 axis-refused w n (v ∷ t) true s q e = simp (s, q, e) (addressed-number n (axisDigit v) 2 (readCommand t) ∙ words-refused t)
@@ -243,7 +224,7 @@ unfolding readWords headWord tailWords
 words-at w t u h q = simp (h, q)
 
 words-number : (ws : List (List ℕ)) (b : Bool) → startsNumber (headWord ws) ≡ b → numberOf (readWords ws) ≡ fromWords ws
-unfolding readWords badAddress own firstOf headWord tailWords
+unfolding readWords badAddress own wordsRefusal firstOf headWord tailWords
 words-number ws false h = simp h (addressed-number 0 0 0 (readCommand ws) ∙ words-refused ws)
 words-number [] true h = clash h (starts-none [] refl)
 words-number (w ∷ t) true h = go (readAddress w) refl
@@ -311,3 +292,7 @@ line-refused l =
   where
     with-slash : (t : List ℕ) → l ≡ 47 ∷ t → length l ≤ 80 → numberOf (readLine l) ≡ refusalOf l
     with-slash t q h = rw q (slash-refused t _ refl (rw q at h))
+
+-- what `read_line` promises of its answer
+pub answered : {r : LineRead} (l : List ℕ) → r ≡ readLine l → (r ≡ readLine l) × (numberOf r ≡ refusalOf l)
+answered l e = (e, ap numberOf e ∙ line-refused l)

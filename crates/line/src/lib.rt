@@ -4,7 +4,8 @@ ghost use mathlib.Core.Path.{_≡_};
 ghost use lib.ListN.{drop};
 ghost use Rattle.laws.specs.Lists.{span};
 ghost use Rattle.words.specs.Cutting.{cut};
-ghost use Rattle.line.specs.Reading.{printable, noColon, isEnd, isFooter, saysSum, parted, afterSlash, frameOf, startsNumber, axisDigit, axisOf, addressOf, readWords, readLine};
+ghost use Rattle.line.specs.Reading.{printable, noColon, isEnd, isFooter, saysSum, parted, afterSlash, frameOf, startsNumber, axisDigit, axisOf, addressOf, readWords, readLine, numberOf};
+ghost use Rattle.line.specs.Refusals.{refusalOf};
 use number::PairRead;
 use number::UnsignedRead;
 use phrase::WordsRead;
@@ -191,7 +192,8 @@ pub fn read_words(s: &[u8]) -> LineRead
 
 // A line.
 pub fn read_line(s: &[u8]) -> LineRead
-    ensures { λ r. ⌜ r ≡ readLine (now (s .entry)) ⌝ }
+    ensures read { λ r. ⌜ r ≡ readLine (now (s .entry)) ⌝ }
+    ensures number { λ r. ⌜ numberOf r ≡ refusalOf (now (s .entry)) ⌝ }
 {
     match read_frame(s) {
         Frame::Refused(n) => LineRead::Silent(n),

@@ -1,6 +1,6 @@
 -- Words are refused with 10 or 11 exactly where document 01's table says so, and 10 before 11.
 -- Assumes nothing.
-use mathlib.Core.Path.{_≡_, refl, _∙_}
+use mathlib.Core.Path.{_≡_, refl, ap, _∙_}
 use mathlib.Core.Logic.{_⊎_, inl, inr}
 use mathlib.Core.Bool.{Bool, true, false, cond, not, _&&_, _||_}
 use mathlib.Core.List.{List, [], _∷_}
@@ -23,7 +23,8 @@ use Rattle.phrase.specs.declared.SettingRead.{SettingRead}
 use Rattle.phrase.specs.declared.SettingRead.the-variants.{Is, Unknown}
 use Rattle.phrase.specs.declared.WordsRead.the-variants.{Refused}
 use Rattle.phrase.specs.Reading.{ended, made, oneNumber, readMove, readSetting, readGet, readSet, readStorepos, readParking, readTools, readWarnings, readCommand}
-use Rattle.phrase.specs.Refusals.{number, word, stands, beginSo, justSo, isNumber, badCommand, badData, wordsNumber}
+use Rattle.phrase.specs.declared.WordsRead.{WordsRead}
+use Rattle.phrase.specs.Refusals.{number, word, stands, beginSo, justSo, isNumber, badCommand, badData, wordsNumber, wordsRefusal}
 
 -- the number that the table gives
 abbrev given : Bool → Bool → ℕ
@@ -164,7 +165,11 @@ first-agrees w (u ∷ t) (inr (e1, inr (e2, inr (e3, inr (e4, inr (e5, inr (e6, 
 first-agrees w t (inr (e1, inr (e2, inr (e3, inr (e4, inr (e5, inr (e6, inr (e7, inr (e8, r))))))))) = simp (e1, e2, e3, e4, e5, e6, e7, e8)
 
 -- Words are refused with the first of 10 and 11 that applies, and with no other number.
-pub words-refused : (ws : List (List ℕ)) → wordsNumber (readCommand ws) ≡ firstOf (10 when badCommand ws ∷ 11 when badData ws ∷ [])
-unfolding readCommand badCommand badData firstOf
+pub words-refused : (ws : List (List ℕ)) → wordsNumber (readCommand ws) ≡ wordsRefusal ws
+unfolding wordsRefusal readCommand badCommand badData firstOf
 words-refused [] = refl
 words-refused (w ∷ t) = first-agrees w t (which w firstWords)
+
+-- what `read_command` promises of its answer
+pub answered : {r : WordsRead} (ws : List (List ℕ)) → r ≡ readCommand ws → (r ≡ readCommand ws) × (wordsNumber r ≡ wordsRefusal ws)
+answered ws e = (e, ap wordsNumber e ∙ words-refused ws)

@@ -8,6 +8,7 @@ use native.Mathlib.Omega.{arith}
 use lib.Dec.{eqb, leb}
 use lib.IntN.{ℤ}
 use borrow.Author.Tests.{leb-true, eqb-false, not-true}
+use Rattle.laws.proofs.Each.{Each}
 use Rattle.laws.specs.Text.{text}
 use Rattle.laws.specs.Lists.{all}
 use Rattle.laws.proofs.Bools.{and-left, and-right}
@@ -17,7 +18,7 @@ use Rattle.words.specs.Spelling.{WordByte, Word}
 use Rattle.command.specs.Settings.{nameOf}
 use Rattle.phrase.specs.Types.{Setting, OfAxis, Pos, LimitMin, LimitMax, MaxSpeed, Accel, DriverCurrentMax, DriverCurrentRun, DriverCurrentHold, DriverDir, EncoderIndexCount, OfDevice, CommAddress, CommAlert, CommChecksum, SystemAccess, DeviceId, SystemAxisCount, Command, Nothing, Home, Stop, Estop, MoveTo, MoveVel, Abs, Rel, Min, Max, Stored, Get, Set, Storepos, StoreposAt, StoreposCurrent, Warnings, WarningsClear, ParkingState, Park, Unpark, Echo}
 use Rattle.phrase.specs.Spelling.{Row}
-use Rattle.phrase.specs.Writing.{commandWords, Spellable, EachWord}
+use Rattle.phrase.specs.Writing.{commandWords, Spellable}
 
 -- the row of a command
 filled : {ws : List (List ℕ)} {c : Command} {es : List (List ℕ)} → es ≡ [] → Row ws c [] → Row ws c es
@@ -117,13 +118,13 @@ setting-word (OfDevice SystemAccess) = refl
 setting-word (OfDevice DeviceId) = refl
 setting-word (OfDevice SystemAxisCount) = refl
 
-key : {w : List ℕ} {ws : List (List ℕ)} → isWord w ≡ true → EachWord ws → EachWord (w ∷ ws)
-key {w} e r = EachWord.more (word-of w e) r
+key : {w : List ℕ} {ws : List (List ℕ)} → isWord w ≡ true → Each Word ws → Each Word (w ∷ ws)
+key {w} e r = Each.more (word-of w e) r
 
-counted : {w : List ℕ} {n : ℤ} {ws : List (List ℕ)} → NumberWord w n → EachWord ws → EachWord (w ∷ ws)
-counted h r = EachWord.more (number-word h) r
+counted : {w : List ℕ} {n : ℤ} {ws : List (List ℕ)} → NumberWord w n → Each Word ws → Each Word (w ∷ ws)
+counted h r = Each.more (number-word h) r
 
-pub row-words : {ws : List (List ℕ)} {c : Command} {es : List (List ℕ)} → Row ws c es → EachWord es → EachWord ws
+pub row-words : {ws : List (List ℕ)} {c : Command} {es : List (List ℕ)} → Row ws c es → Each Word es → Each Word ws
 unfolding isWord isByte text
 row-words Row.nothing r = r
 row-words Row.home r = key refl r
@@ -147,5 +148,5 @@ row-words Row.park r = key refl (key refl (key refl r))
 row-words Row.unpark r = key refl (key refl (key refl r))
 row-words Row.echo r = key refl (key refl r)
 
-pub written-words : (c : Command) (es : List (List ℕ)) → Spellable c es → EachWord (commandWords c es)
+pub written-words : (c : Command) (es : List (List ℕ)) → Spellable c es → Each Word (commandWords c es)
 written-words c es h = row-words (row-written c es h) (h .words)

@@ -7,6 +7,7 @@ use Prim.Native.String.{String}
 use lib.ListN.{length, drop}
 use Rattle.laws.specs.Lists.{any}
 use Rattle.laws.specs.Text.{text, same}
+use Rattle.laws.specs.Refusals.{_when_, firstOf}
 use Rattle.number.specs.Reading.{readNumber}
 use Rattle.number.specs.declared.NumberRead.{NumberRead}
 use Rattle.number.specs.declared.NumberRead.the-variants as Number
@@ -108,3 +109,7 @@ badData (v ∷ ws) = not (any (fits (v ∷ ws)) table)
 abbrev pub wordsNumber : WordsRead → ℕ
 wordsNumber (Words.Command c) = 0
 wordsNumber (Words.Refused n) = n
+
+-- "Checks run in the table's order and the first that applies wins."
+unfoldable pub wordsRefusal : List (List ℕ) → ℕ
+wordsRefusal ws = firstOf (10 when badCommand ws ∷ 11 when badData ws ∷ [])

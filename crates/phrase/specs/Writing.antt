@@ -8,6 +8,7 @@ use lib.IntN.{ℤ}
 use mir.Syntax.{w32}
 use mir.Val.{SFits}
 use Rattle.laws.specs.Text.{text}
+use Rattle.laws.proofs.Each.{Each}
 use Rattle.number.specs.Decimal.{decimal}
 use Rattle.words.specs.Spelling.{Word}
 use Rattle.command.specs.Settings.{nameOf, readOnly}
@@ -40,11 +41,6 @@ commandWords ParkingState es = text "tools" ∷ text "parking" ∷ text "state" 
 commandWords Park es = text "tools" ∷ text "parking" ∷ text "park" ∷ []
 commandWords Unpark es = text "tools" ∷ text "parking" ∷ text "unpark" ∷ []
 commandWords Echo es = text "tools" ∷ text "echo" ∷ es
-
--- each of a list of texts is a word
-pub data EachWord : List (List ℕ) → Type 0 where
-  none : EachWord []
-  more : {w : List ℕ} {ws : List (List ℕ)} → Word w → EachWord ws → EachWord (w ∷ ws)
 
 -- "value -2,147,483,648 to 2,147,483,647": a number of 32 bits
 abbrev pub Number32 : ℤ → Type 0
@@ -81,4 +77,4 @@ PartsFit Echo = Unit
 pub record Spellable (c : Command) (es : List (List ℕ)) : Type 0 where
   pub parts : PartsFit c
   pub only-echo : isEcho c ≡ false → es ≡ []
-  pub words : EachWord es
+  pub words : Each Word es

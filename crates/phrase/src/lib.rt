@@ -7,6 +7,7 @@ ghost use Rattle.words.specs.Find.{entryAt};
 ghost use Rattle.phrase.specs.declared.SettingRead.the-variants.{Unknown};
 ghost use Rattle.phrase.specs.declared.WordsRead.the-variants.{Refused};
 ghost use Rattle.phrase.specs.Reading.{ended, numbered as numberedBy, made, oneNumber, moves, readMove, names, readSetting, getOf, readGet, setOf, readSet, storeAt, readStorepos, parkings, readParking, tools, readTools, readWarnings, firsts, readCommand};
+ghost use Rattle.phrase.specs.Refusals.{wordsNumber, wordsRefusal};
 use command::AxisSetting;
 use command::Command;
 use command::DeviceSetting;
@@ -285,7 +286,8 @@ fn first_at(k: usize, s: &[u8], at: usize) -> WordsRead
 
 // The words of a command, from a place on.
 pub fn read_command(s: &[u8], at: usize) -> WordsRead
-    ensures { λ r. ⌜ r ≡ readCommand (cut (drop at (now (s .entry)))) ⌝ }
+    ensures read { λ r. ⌜ r ≡ readCommand (cut (drop at (now (s .entry)))) ⌝ }
+    ensures number { λ r. ⌜ wordsNumber r ≡ wordsRefusal (cut (drop at (now (s .entry)))) ⌝ }
 {
     let w = words::first_word(s, at);
     if w.len() == 0 {

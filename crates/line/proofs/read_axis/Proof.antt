@@ -18,14 +18,14 @@ read-command-requires c κs = search needs
 
 returns : tie.Need-returns
 unfolding axisOf
-returns c = rw (← c .before .before .before .before .first-word .ensures, ← c .before .before .before .axis-digit .ensures, lt-ltb _ _ (c .before .before .if1 .taken), ← c .before .past-word .ensures .1, ← c .read-command .ensures)
+returns c = rw (← c .before .before .before .before .first-word .ensures, ← c .before .before .before .axis-digit .ensures, lt-ltb _ _ (c .before .before .if1 .taken), ← c .before .past-word .ensures .1, ← c .read-command .ensures .0)
 
 read-command-requires-2 : tie.Need-read-command-requires-2
 read-command-requires-2 c κs = search needs
 
 returns-2 : tie.Need-returns-2
 unfolding axisOf
-returns-2 c = rw (← c .before .before .before .first-word .ensures, ← c .before .before .axis-digit .ensures, le-ltb _ _ (c .before .if1 .left), ← c .read-command2 .ensures)
+returns-2 c = rw (← c .before .before .before .first-word .ensures, ← c .before .before .axis-digit .ensures, le-ltb _ _ (c .before .if1 .left), ← c .read-command2 .ensures .0)
 
 pub read-axis-spec : {M : Type 1} → statement M
 read-axis-spec =

@@ -1,3 +1,4 @@
+use Rattle.line.proofs.Refused.{answered}
 use Rattle.line.proofs.Steps.{line-silent, line-words}
 use Rattle.line.proofs.Frames.{content-fits}
 use native.Mathlib.Omega.{arith}
@@ -30,10 +31,10 @@ read-words-requires : tie.Need-read-words-requires
 read-words-requires c κs = search needs
 
 returns : tie.Need-returns
-returns c = line-silent _ (c .before .before .before .read-frame .ensures) _ (c .before .n .given .1)
+returns c = answered _ (line-silent _ (c .before .before .before .read-frame .ensures) _ (c .before .n .given .1))
 
 returns-2 : tie.Need-returns-2
-returns-2 c = line-words _ (c .before .before .before .before .before .read-frame .ensures) _ (c .before .before .before .c .given .1) (c .read-words .ensures)
+returns-2 c = answered _ (line-words _ (c .before .before .before .before .before .read-frame .ensures) _ (c .before .before .before .c .given .1) (c .read-words .ensures))
 
 pub read-line-spec : {M : Type 1} → statement M
 read-line-spec =

@@ -29,7 +29,7 @@ read-command-requires c κs = search needs
 
 returns-2 : tie.Need-returns-2
 unfolding readWords
-returns-2 c = rw (← c .before .before .before .first-word .ensures, sym (c .before .before .starts-number .ensures) ∙ c .before .if1 .left, ← c .read-command .ensures)
+returns-2 c = rw (← c .before .before .before .first-word .ensures, sym (c .before .before .starts-number .ensures) ∙ c .before .if1 .left, ← c .read-command .ensures .0)
 
 pub read-words-spec : {M : Type 1} → statement M
 read-words-spec =

@@ -1,3 +1,4 @@
+use Rattle.phrase.proofs.Refused.{answered}
 use lib.ListN.{drop}
 use Rattle.laws.specs.Text.{text}
 use Rattle.words.specs.Cutting.{cut, isSpace, noSpace, grow}
@@ -10,7 +11,7 @@ first-word-requires : tie.Need-first-word-requires
 first-word-requires c κs = search needs
 
 returns : tie.Need-returns
-returns c = let a = c .before .before .before .args in command-none (drop (a .at) (a .s .now)) _ (c .before .first-word .ensures) (c .if1 .taken)
+returns c = let a = c .before .before .before .args in answered _ (command-none (drop (a .at) (a .s .now)) _ (c .before .first-word .ensures) (c .if1 .taken))
 
 slice-aggregate-find-word : tie.Need-slice-aggregate-find-word
 slice-aggregate-find-word c = search needs
@@ -28,7 +29,8 @@ returns-2 : tie.Need-returns-2
 unfolding cut isSpace noSpace grow text
 returns-2 c =
     let a = c .before .before .before .before .before .before .before .args in
-    command-first (drop (a .at) (a .s .now)) _ (c .before .before .before .before .before .first-word .ensures) (c .before .before .before .before .if1 .left) _ _ (c .before .past-word .ensures .1) (c .before .before .find-word .ensures) (c .first-at .ensures)
+    answered _
+    (command-first (drop (a .at) (a .s .now)) _ (c .before .before .before .before .before .first-word .ensures) (c .before .before .before .before .if1 .left) _ _ (c .before .past-word .ensures .1) (c .before .before .find-word .ensures) (c .first-at .ensures))
 
 pub read-command-spec : {M : Type 1} → statement M
 read-command-spec =
