@@ -1,6 +1,7 @@
 -- The cases of the frame's reading, as the tests of the code have them.
 -- Assumes nothing.
-use mathlib.Core.Path.{_≡_, refl, sym, _∙_}
+use mathlib.Core.Path.{_≡_, refl, sym, ap, _∙_}
+use mathlib.Core.Logic.{⊎-elim}
 use mathlib.Core.Bool.{Bool, true, false, cond}
 use mathlib.Core.List.{List, [], _∷_}
 use Prim.Native.Nat.{ℕ, _+_, _-_, _≤_, _<_}
@@ -8,11 +9,12 @@ use native.Mathlib.Omega.{arith}
 use lib.Dec.{eqb, ltb}
 use lib.ListN.{length, getD, take, drop, length-drop, length-take, drop-of-length-le}
 use lib.Seq.{getD-drop}
-use borrow.Author.Tests.{lt-ltb, le-ltb, le-leb, lt-leb, eq-eqb, ne-eqb}
+use borrow.Author.Tests.{lt-ltb, le-ltb, ltb-false, le-leb, lt-leb, eq-eqb, ne-eqb}
 use Rattle.laws.specs.Lists.{span}
 use Rattle.laws.specs.Text.{slash}
-use Rattle.laws.proofs.Bools.{and-false}
+use Rattle.laws.proofs.Bools.{and-false, clash}
 use Rattle.laws.proofs.Lists.{rest}
+use Rattle.laws.proofs.Order.{lt-or-le}
 use Rattle.laws.proofs.Span.{span-le}
 use Rattle.number.specs.Reading.{readPair}
 use Rattle.number.specs.declared.PairRead.{PairRead}
@@ -160,29 +162,35 @@ pub parted-fits : (b : List ℕ) (n : ℕ) → parted b ≡ Content n → n ≡ 
 unfolding parted
 parted-fits b n e = checked-fits (span noColon b) n (take (span noColon b) b) (drop (span noColon b) b) e
 
-tail-content : (t : List ℕ) (n : ℕ) → afterSlash t ≡ Content n → n ≤ length t
-unfolding afterSlash
-tail-content t n e = go (isFooter (drop (span printable t) t)) e
-  where
-    go : (b : Bool) → cond b (parted (take (span printable t) t)) (Refused 1) ≡ Content n → n ≤ length t
-    go true e =
-        let x = take (span printable t) t in
-        omega (arith, parted-fits x n e, span-le noColon x, length-take (span printable t) t)
-    go false e = let z : _≡_ {A = ℕ} 0 1 = cc in absurd (omega arith)
+-- a footer is not empty
+footer-some : (t : List ℕ) (e : ℕ) → isFooter (drop e t) ≡ true → e < length t
+unfolding isFooter
+footer-some t e h = ⊎-elim (λ l. l) (λ l. clash h (ap isFooter (drop-of-length-le t l))) (lt-or-le e (length t))
 
-slashed-content : (l : List ℕ) (n : ℕ) → slashed l ≡ Content n → n < length l
+tail-content : (t : List ℕ) (n : ℕ) → afterSlash t ≡ Content n → n < length t
+unfolding afterSlash
+tail-content t n e = go (isFooter (drop (span printable t) t)) refl e
+  where
+    go : (b : Bool) → isFooter (drop (span printable t) t) ≡ b → cond b (parted (take (span printable t) t)) (Refused 1) ≡ Content n → n < length t
+    go true f e =
+        let x = take (span printable t) t in
+        omega (arith, parted-fits x n e, span-le noColon x, length-take (span printable t) t, footer-some t (span printable t) f)
+    go false f e = let z : _≡_ {A = ℕ} 0 1 = cc in absurd (omega arith)
+
+slashed-content : (l : List ℕ) (n : ℕ) → slashed l ≡ Content n → n + 1 < length l
 unfolding slashed
 slashed-content [] n e = let z : _≡_ {A = ℕ} 0 1 = cc in absurd (omega arith)
 slashed-content (c ∷ t) n e = go (eqb c slash) e
   where
-    go : (b : Bool) → cond b (afterSlash t) (Refused 1) ≡ Content n → n < length (c ∷ t)
+    go : (b : Bool) → cond b (afterSlash t) (Refused 1) ≡ Content n → n + 1 < length (c ∷ t)
     go true e = omega (arith, tail-content t n e)
     go false e = let z : _≡_ {A = ℕ} 0 1 = cc in absurd (omega arith)
 
-pub content-fits : (l : List ℕ) {r : Frame} (n : ℕ) → r ≡ frameOf l → r ≡ Content n → n < length l
+-- a content stands between the `/` and the footer of a line that is not too long
+pub content-fits : (l : List ℕ) {r : Frame} (n : ℕ) → r ≡ frameOf l → r ≡ Content n → (n + 1 < length l) × (length l ≤ most)
 unfolding frameOf
-content-fits l n q h = go (ltb most (length l)) (sym q ∙ h)
+content-fits l n q h = go (ltb most (length l)) refl (sym q ∙ h)
   where
-    go : (b : Bool) → cond b (Refused 2) (slashed l) ≡ Content n → n < length l
-    go true e = let z : _≡_ {A = ℕ} 0 1 = cc in absurd (omega arith)
-    go false e = slashed-content l n e
+    go : (b : Bool) → ltb most (length l) ≡ b → cond b (Refused 2) (slashed l) ≡ Content n → (n + 1 < length l) × (length l ≤ most)
+    go true f e = let z : _≡_ {A = ℕ} 0 1 = cc in absurd (omega arith)
+    go false f e = (slashed-content l n e, ltb-false most (length l) f)
