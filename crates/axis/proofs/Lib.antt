@@ -1,2 +1,2 @@
 pub mod Aim
-pub mod MotorReports
+pub mod GoodStays

@@ -5,4 +5,3 @@ pub mod Aim
 pub mod Good
 pub mod Warnings
 pub mod Moves
-pub mod Reports

@@ -6,7 +6,7 @@ use Prim.Native.Nat.{ℕ}
 use lib.IntN.{pos}
 use lib.ListN.{replicate}
 use Rattle.units.specs.Units.{position}
-use Rattle.settings.specs.Record.{settings, freshSettings}
+use Rattle.settings.specs.Record.{freshSettings}
 use Rattle.axis.specs.Types.{Position, Motion, Idle, Homing, To, At, Stopping, Settings, Axis}
 
 -- the records, made anew from their parts
@@ -25,12 +25,6 @@ withWarnings w a = axis (a .settings) (a .motion) (a .reference) w (a .stored)
 
 abbrev pub withStored : List Position → Axis → Axis
 withStored p a = axis (a .settings) (a .motion) (a .reference) (a .warnings) p
-
--- the axis at p, in the motion m, with a reference or none
-abbrev pub placed : Position → Motion → Bool → Axis → Axis
-placed p m r a =
-    let s = a .settings in
-    axis (settings p (s .limit) (s .maxspeed) (s .accel) (s .current) (s .dir) (s .index)) m r (a .warnings) (a .stored)
 
 -- "its motion (idle, homing, to a position, at a speed, stopping)": all but idle are in motion
 abbrev pub inMotion : Motion → Bool

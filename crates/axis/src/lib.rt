@@ -3,7 +3,6 @@
 ghost use mathlib.Core.Path.{_≡_};
 ghost use Rattle.axis.specs.Record.{withSettings, withMotion, inMotion, isHoming, moving, stopped, freshAxis};
 use settings::Settings;
-use units::Number;
 use units::Position;
 use units::Speed;
 
@@ -23,16 +22,6 @@ pub struct Axis {
     pub reference: bool,
     pub warnings: u32,
     pub stored: [Position; 16],
-}
-
-// A motor report, kinds 1 to 5 in this order; any other kind.
-pub enum Report {
-    MovingAt(Position),
-    StoppedAt(Position),
-    HomeReached(Position),
-    Raised(Number),
-    DriverNormal,
-    Unknown,
 }
 
 impl Motion {
@@ -119,5 +108,4 @@ impl Axis {
 
 pub mod good;
 pub mod moves;
-pub mod reports;
 pub mod travel;

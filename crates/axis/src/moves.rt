@@ -1,6 +1,8 @@
-// What a command makes of an axis: a move, and a stored position.
+// What a command makes of an axis: a move, a stored position, cleared warnings. And the warnings that are active.
 // An axis that may not do it stays as it is.
 ghost use mathlib.Core.Path.{_≡_};
+ghost use Rattle.flags.specs.Flags.{mask};
+ghost use Rattle.axis.specs.Warnings.{active as activeOf};
 ghost use Rattle.axis.specs.Moves.{moved as movedTo, store as storeAt, cleared as clearedOf};
 use crate::Axis;
 use crate::Motion;
@@ -43,5 +45,13 @@ impl Axis {
     {
         self.warnings = self.warnings % 2;
         self
+    }
+
+    // The flags that are active, FD to WR, as a mask.
+    pub fn active(self) -> u32
+        ensures { λ r. ⌜ r ≡ mask (activeOf self) ⌝ }
+    {
+        let w = !self.reference;
+        flags::active(self.warnings, w)
     }
 }

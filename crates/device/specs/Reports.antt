@@ -7,7 +7,7 @@ use lib.Dec.{eqb, leb}
 use Rattle.laws.specs.Lists.{all}
 use Rattle.laws.specs.Refusals.{_when_, firstOf}
 use Rattle.units.specs.Units.{place}
-use Rattle.axis.specs.Reports.{takes, reported}
+use Rattle.reports.specs.Reports.{takes, reported}
 use Rattle.device.specs.Types.{Number, Report, Device, Outcome}
 use Rattle.state.specs.Record.{axesOf, onAxes}
 use Rattle.state.specs.Good.{good}

@@ -4,7 +4,7 @@ use mathlib.Core.Bool.{Bool, not}
 use Prim.Native.Nat.{ℕ, _-_, min}
 use Rattle.axis.specs.Record.{moving}
 use Rattle.axis.specs.Good.{goodAxis}
-use Rattle.axis.specs.Reports.{takes, reported}
+use Rattle.reports.specs.Reports.{takes, reported}
 use Rattle.orders.specs.Commands.{demands, axisAfter}
 use Rattle.state.specs.Types.{Axis, Test, Change}
 use Rattle.state.specs.declared.each.Part.{Part}

@@ -1,15 +1,17 @@
-// One walk over the axes that a number means, to ask each the same question, and one to change each in the same way.
+// Three walks over the axes that a number means: to ask each the same question, to join their flags, to change each.
 // Axis 0 means all axes up to the count.
 ghost use mathlib.Core.Path.{_≡_};
 ghost use Prim.Native.Nat.{_+_, _-_, _≤_, min};
 ghost use lib.ListN.{length, take, drop};
 ghost use Rattle.laws.specs.Lists.{all, changeFrom};
+ghost use Rattle.flags.specs.Flags.{mask, union};
+ghost use Rattle.axis.specs.Warnings.{active as activeOf};
 ghost use Rattle.state.specs.Record.{many as manyOf, axesOf, onAxes};
 ghost use Rattle.state.specs.Each.{passes as passesOf, changed as changedBy, partOf};
 use crate::Device;
 use axis::Axis;
-use axis::Report;
 use command::Command;
+use reports::Report;
 
 // What is asked of an axis.
 pub enum Test {
@@ -46,7 +48,7 @@ fn passes(a: Axis, t: Test) -> bool
             !b
         }
         Test::Permits(c) => orders::permits(a, c),
-        Test::Takes(r) => a.takes(r),
+        Test::Takes(r) => reports::takes(a, r),
     }
 }
 
@@ -55,7 +57,7 @@ fn changed(a: Axis, g: Change) -> Axis
 {
     match g {
         Change::Obey(c) => orders::after(a, c),
-        Change::Hear(r) => a.reported(r),
+        Change::Hear(r) => reports::reported(a, r),
     }
 }
 
@@ -89,6 +91,23 @@ fn change_all(axes: [Axis; 4], g: Change, from: usize, many: usize) -> [Axis; 4]
         n = n + 1;
     }
     next
+}
+
+// The flags that are active on some of the axes.
+fn all_active(axes: [Axis; 4], from: usize, many: usize) -> u32
+    requires { ⌜ from + many ≤ 4 ⌝ }
+    ensures { λ r. ⌜ (length axes ≡ 4) × (r ≡ mask (union activeOf (take many (drop from axes)))) ⌝ }
+{
+    let mut w: u32 = 0;
+    let mut n: usize = 0;
+    while n < many {
+        let i = from + n;
+        let a = axes[i];
+        let t = a.active();
+        w = flags::union(w, t);
+        n = n + 1;
+    }
+    w % 256
 }
 
 fn least(a: u64, b: u64) -> u64
@@ -129,6 +148,15 @@ impl Device {
         let axes = self.axes;
         let p = self.part(k);
         all_pass(axes, t, p.from, p.many)
+    }
+
+    // The flags that are active on some axis that k means, FD to WR, as a mask.
+    pub fn active(self, k: u64) -> u32
+        ensures { λ r. ⌜ r ≡ mask (union activeOf (axesOf self k)) ⌝ }
+    {
+        let axes = self.axes;
+        let p = self.part(k);
+        all_active(axes, p.from, p.many)
     }
 
     // Every axis that k means changed, and all other places as they are.

@@ -1,0 +1,6 @@
+pub mod Accepted
+pub mod RefusalKeeps
+pub mod TargetExact
+pub mod OutsideRefused
+pub mod BeyondCount
+pub mod GoodStays

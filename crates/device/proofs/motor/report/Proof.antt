@@ -1,0 +1,41 @@
+use mathlib.Core.Path.{sym, _∙_}
+use Rattle.device.specs.Reports.{report}
+use borrow.Author.Tests.{ne-eqb}
+use borrow.Author.Needs.{needs}
+use Rattle.device.proofs.motor.report.Statement.{statement}
+use Rattle.device.proofs.motor.report.Tie as tie
+
+place-requires : tie.Need-place-requires
+place-requires c κs = search needs
+
+report-refusal-requires : tie.Need-report-refusal-requires
+report-refusal-requires c κs = search needs
+
+change-requires : tie.Need-change-requires
+change-requires c κs = search needs
+
+beside-requires : tie.Need-beside-requires
+beside-requires c κs = search needs
+
+beside-requires-2 : tie.Need-beside-requires-2
+beside-requires-2 c κs = search needs
+
+returns : tie.Need-returns
+unfolding report
+returns c = simp (c .beside .ensures, c .before .change .ensures, c .before .before .before .before .place .ensures, simp (c .before .before .before .before .place .ensures) at (sym (c .before .before .before .report-refusal .ensures) ∙ c .before .before .if1 .taken))
+
+returns-2 : tie.Need-returns-2
+unfolding report
+returns-2 c = simp (c .beside2 .ensures, c .before .before .report-refusal .ensures, c .before .before .before .place .ensures, simp (c .before .before .report-refusal .ensures, c .before .before .before .place .ensures) at (ne-eqb _ _ (c .before .if1 .left)))
+
+pub report-spec : {M : Type 1} → statement M
+report-spec =
+    tie.close
+    (tie.spec
+    place-requires
+    report-refusal-requires
+    change-requires
+    beside-requires
+    beside-requires-2
+    returns
+    returns-2)

@@ -1,0 +1,2 @@
+pub mod MotorReports
+pub mod GoodStays

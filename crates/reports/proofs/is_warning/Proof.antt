@@ -1,0 +1,12 @@
+use borrow.Author.Needs.{needs}
+use Rattle.reports.proofs.is_warning.Statement.{statement}
+use Rattle.reports.proofs.is_warning.Tie as tie
+
+place-requires : tie.Need-place-requires
+place-requires c κs = search needs
+
+returns : tie.Need-returns
+returns c = simp (c .place .ensures)
+
+pub is-warning-spec : {M : Type 1} → statement M
+is-warning-spec = tie.close (tie.spec place-requires returns)

@@ -1,0 +1,12 @@
+use borrow.Author.Needs.{needs}
+use Rattle.reports.proofs.placed.Statement.{statement}
+use Rattle.reports.proofs.placed.Tie as tie
+
+with-motion-requires : tie.Need-with-motion-requires
+with-motion-requires c κs = search needs
+
+returns : tie.Need-returns
+returns c = simp (c .with-motion .ensures)
+
+pub placed-spec : {M : Type 1} → statement M
+placed-spec = tie.close (tie.spec with-motion-requires returns)
