@@ -1,17 +1,16 @@
 -- Every reply that the device writes is read by the host as what was put in, with a checksum and without.
 -- It is so because the reply's text is a spelling of that reply. Assumes nothing.
-use mathlib.Core.Path.{_≡_, refl, sym, ap, subst, _∙_}
+use mathlib.Core.Path.{_≡_, refl, subst}
 use mathlib.Core.Bool.{Bool, true, false, cond}
-use mathlib.Core.List.{List, [], _∷_, _++_}
+use mathlib.Core.List.{List}
 use Prim.Native.Nat.{ℕ, zero, suc, _+_, _*_, _/_, _%_, _≤_, _<_}
 use native.Mathlib.Omega.{arith}
 use native.Mathlib.Nat.{mod-eq-of-lt}
 use lib.Dec.{ltb}
-use lib.ListN.{length, length-append}
+use lib.ListN.{length}
 use borrow.Author.Tests.{le-ltb}
-use Rattle.laws.specs.Text.{text, spaced}
 use Rattle.number.specs.Checksum.{checksum}
-use Rattle.number.specs.Decimal.{lastDigit, digits, twoDigits, hexPair}
+use Rattle.number.specs.Decimal.{lastDigit, digits, twoDigits}
 use Rattle.number.specs.Spelling.{Digit}
 use Rattle.number.proofs.Decimal.{digits-one, pair-spelled}
 use Rattle.flags.specs.Flags.{warningNames, bits, first}
@@ -19,13 +18,13 @@ use Rattle.data.specs.Parts.{warningAt}
 use Rattle.reply.specs.Reply.{verdict, status, highest, body, ending, reply}
 use Rattle.reply.specs.declared.Head.{Head}
 use Rattle.reply.proofs.Texts.{highest-is, ending-sum, ending-bare}
+use Rattle.reply.proofs.Room.{reply-length}
 use Rattle.host.specs.Spelling.{Address, Axis, Verdict, accepted, rejected, Status, idle, busy, Warning, fd, fq, fs, ft, fb, fp, fe, wr, Data, End, bare, summed}
 use Rattle.host.specs.Spelling as spelling
 use Rattle.host.specs.Reading.{readReply}
 use Rattle.host.specs.declared.Heard.{Heard}
 use Rattle.host.specs.declared.ReplyRead.the-variants.{Reply}
-use Rattle.host.proofs.Spelled.{verdict-two, status-four, warning-two}
-use Rattle.host.proofs.Replies.{found, reply-read}
+use Rattle.host.proofs.Replies.{reply-read}
 
 -- the place of the highest flag of a mask, from 1; 0 where there is none
 abbrev placeOf : ℕ → ℕ
@@ -88,23 +87,8 @@ end-spelled : (sum : Bool) (s : List ℕ) → End s (ending sum s)
 end-spelled true s = rw (ending-sum true s refl) (summed (pair-spelled (checksum s) (sum-byte s)))
 end-spelled false s = rw (ending-bare false s refl) bare
 
-end-length : (sum : Bool) (s : List ℕ) → length (ending sum s) ≤ 5
-unfolding text hexPair
-end-length true s = rw (ending-sum true s refl) (omega arith)
-end-length false s = rw (ending-bare false s refl) (omega arith)
-
 -- ---- the whole
 module _ (h : Head) (sum : Bool) (words : List ℕ) (some : 1 ≤ h .address) (most : h .address ≤ 99) (one : h .axis ≤ 9) (said : Data words) (short : length words ≤ 74) where
-  head-length : length (text "@" ++ body h words) ≡ 17 + length words
-  unfolding body twoDigits lastDigit
-  head-length =
-      rw (digits-one (h .axis) (omega arith))
-      (found _ _ _ words [] (verdict-two (verdict-spelled (h .ok))) (status-four (status-spelled (h .busy))) (warning-two (highest-spelled (h .warnings))) .front)
-
-  fits : length (reply h sum words) ≤ 96
-  unfolding reply
-  fits = rw length-append (omega (arith, head-length, end-length sum (body h words)))
-
   pub reply-spelled : spelling.Reply (reply h sum words) (heardOf h words)
   unfolding reply body
   reply-spelled =
@@ -116,7 +100,7 @@ module _ (h : Head) (sum : Bool) (words : List ℕ) (some : 1 ≤ h .address) (m
       (highest-spelled (h .warnings))
       said
       (end-spelled sum (body h words))
-      fits
+      (reply-length h (omega arith) sum words short)
 
   pub reads-back : readReply (reply h sum words) ≡ Reply (heardOf h words)
   reads-back = reply-read reply-spelled

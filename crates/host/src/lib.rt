@@ -116,7 +116,7 @@ fn right_head(h: Head) -> bool
     (1 <= h.address) & (h.axis < 10) & (h.verdict < 2) & (h.status < 2) & (h.warning < 9)
 }
 
-fn data_byte(c: u8) -> bool
+pub fn data_byte(c: u8) -> bool
     ensures { λ r. ⌜ r ≡ dataByte c ⌝ }
 {
     (32 <= c) & (c <= 126) & (c != b':')

@@ -62,7 +62,7 @@ pub fn put_head(buf: &mut [u8], at: usize, h: Head) -> usize
 }
 
 // The checksum of what stands in the buffer behind its first byte and before the place.
-fn summed(buf: &[u8], at: usize) -> u8
+pub fn summed(buf: &[u8], at: usize) -> u8
     ensures { λ r. ⌜ r ≡ checksum (drop 1 (take at (now (buf .entry)))) ⌝ }
 {
     let end = lesser(at, buf.len());

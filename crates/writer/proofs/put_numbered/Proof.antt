@@ -1,0 +1,25 @@
+-- `writer::put_numbered` meets its contract: two writes, one behind the other.
+-- Assumes nothing.
+use Rattle.wire.proofs.Wrote.{_▸_}
+use borrow.Author.Needs.{needs}
+use Rattle.writer.proofs.put_numbered.Statement.{statement}
+use Rattle.writer.proofs.put_numbered.Tie as tie
+use Rattle.writer.proofs.put_numbered.Reads as reads
+use Rattle.writer.proofs.put_numbered.Lts as lts
+use Rattle.wire.proofs.put_signed.Reads as put-signed-reads
+use Rattle.wire.proofs.put_text.Reads as put-text-reads
+
+put-text-requires : tie.Need-put-text-requires
+put-text-requires c κs = search needs
+
+put-signed-requires : tie.Need-put-signed-requires
+put-signed-requires c κs = search needs
+
+same-length : tie.Need-same-length
+same-length c = search needs
+
+returns : tie.Need-returns
+returns c = c .before .before .before .before .before .before .put-text .ensures ▸ c .before .before .put-signed .ensures
+
+pub put-numbered-spec : {M : Type 1} → statement M
+put-numbered-spec = tie.close (tie.spec put-text-requires put-signed-requires same-length returns)
