@@ -54,6 +54,7 @@ fn colon_at(s: &[u8]) -> usize
     i
 }
 
+// Is the byte CR or LF?
 fn is_end(c: u8) -> bool
     ensures { λ r. ⌜ r ≡ isEnd c ⌝ }
 {
@@ -63,6 +64,7 @@ fn is_end(c: u8) -> bool
     c == 10
 }
 
+// Are the bytes a footer?
 fn is_footer(f: &[u8]) -> bool
     ensures { λ r. ⌜ r ≡ isFooter (now (f .entry)) ⌝ }
 {
@@ -170,6 +172,7 @@ fn read_axis(s: &[u8], at: usize, n: u64) -> LineRead
     LineRead::Addressed(n, 0, 1, phrase::read_command(s, at))
 }
 
+// The words behind a first word that comes to a as an address.
 fn read_addressed(s: &[u8], at: usize, a: UnsignedRead) -> LineRead
     ensures { λ r. ⌜ r ≡ addressOf a (cut (drop at (now (s .entry)))) ⌝ }
 {

@@ -57,6 +57,7 @@ impl Numbered {
         }
     }
 
+    // The row with its number, or 11 where it is none.
     fn made(self, n: NumberRead) -> WordsRead
         ensures { λ r. ⌜ r ≡ made self n ⌝ }
     {
@@ -91,6 +92,7 @@ fn one_number(s: &[u8], at: usize, k: Numbered) -> WordsRead
     WordsRead::Refused(11)
 }
 
+// Behind `move` and the word at place k of those that may follow it.
 fn move_at(k: usize, s: &[u8], at: usize) -> WordsRead
     ensures { λ r. ⌜ r ≡ entryAt (Refused 10) k (moves (cut (drop at (now (s .entry))))) ⌝ }
 {
@@ -113,6 +115,7 @@ fn read_move(s: &[u8], at: usize) -> WordsRead
     move_at(k, s, words::past_word(s, at))
 }
 
+// The setting at place k of the names.
 fn setting_at(k: usize) -> SettingRead
     ensures { λ r. ⌜ r ≡ entryAt Unknown k names ⌝ }
 {
@@ -147,6 +150,7 @@ fn read_setting(w: &[u8]) -> SettingRead
     ))
 }
 
+// Behind `get` and the name of x.
 fn get_of(s: &[u8], at: usize, x: SettingRead) -> WordsRead
     ensures { λ r. ⌜ r ≡ getOf x (cut (drop at (now (s .entry)))) ⌝ }
 {
@@ -164,6 +168,7 @@ fn read_get(s: &[u8], at: usize) -> WordsRead
     get_of(s, words::past_word(s, at), x)
 }
 
+// Behind `set` and the name of x.
 fn set_of(s: &[u8], at: usize, x: SettingRead) -> WordsRead
     ensures { λ r. ⌜ r ≡ setOf x (cut (drop at (now (s .entry)))) ⌝ }
 {
@@ -186,6 +191,7 @@ fn read_set(s: &[u8], at: usize) -> WordsRead
     set_of(s, words::past_word(s, at), x)
 }
 
+// `tools storepos` with its number n and a position.
 fn store_at(n: NumberRead, v: &[u8]) -> WordsRead
     ensures { λ r. ⌜ r ≡ storeAt n (now (v .entry)) ⌝ }
 {
@@ -216,6 +222,7 @@ fn read_storepos(s: &[u8], at: usize) -> WordsRead
     store_at(n, v)
 }
 
+// Behind `tools parking` and the word at place k of those that may follow it.
 fn parking_at(k: usize, s: &[u8], at: usize) -> WordsRead
     ensures { λ r. ⌜ r ≡ entryAt (Refused 11) k (parkings (cut (drop at (now (s .entry))))) ⌝ }
 {
@@ -235,6 +242,7 @@ fn read_parking(s: &[u8], at: usize) -> WordsRead
     parking_at(k, s, words::past_word(s, at))
 }
 
+// Behind `tools` and the word at place k of those that may follow it.
 fn tool_at(k: usize, s: &[u8], at: usize) -> WordsRead
     ensures { λ r. ⌜ r ≡ entryAt (Refused 10) k (tools (cut (drop at (now (s .entry))))) ⌝ }
 {
@@ -268,6 +276,7 @@ fn read_warnings(s: &[u8], at: usize) -> WordsRead
     WordsRead::Refused(11)
 }
 
+// Behind the first word at place k of the table.
 fn first_at(k: usize, s: &[u8], at: usize) -> WordsRead
     ensures { λ r. ⌜ r ≡ entryAt (Refused 10) k (firsts (cut (drop at (now (s .entry))))) ⌝ }
 {
