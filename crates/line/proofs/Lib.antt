@@ -3,5 +3,7 @@ pub mod Steps
 pub mod Composed
 pub mod Demand3
 pub mod Cases
+pub mod Ends
+pub mod Sums
 pub mod Refused
 pub mod Every
