@@ -139,7 +139,7 @@ word-is-data : {c : ℕ} → WordByte c → dataByte c ≡ true
 unfolding dataByte
 word-is-data {c} h = simp (le-leb 32 c (omega (arith, h .low)), le-leb c 126 (h .high), ne-eqb c 58 (h .no-colon))
 
-data-is-word : (c : ℕ) → dataByte c ≡ true → (c ≡ 32 → ⊥) → WordByte c
+pub data-is-word : (c : ℕ) → dataByte c ≡ true → (c ≡ 32 → ⊥) → WordByte c
 unfolding dataByte
 data-is-word c t h =
     let both = and-left (leb 32 c && leb c 126) (not (eqb c 58)) t in
