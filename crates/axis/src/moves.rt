@@ -6,7 +6,6 @@ ghost use Rattle.axis.specs.Warnings.{active as activeOf};
 ghost use Rattle.axis.specs.Moves.{moved as movedTo, store as storeAt, cleared as clearedOf};
 use crate::Axis;
 use crate::Motion;
-use crate::travel::is_place;
 use command::Target;
 use units::Number;
 use units::Position;

@@ -4,3 +4,4 @@ pub mod TargetExact
 pub mod OutsideRefused
 pub mod BeyondCount
 pub mod GoodStays
+pub mod Cases

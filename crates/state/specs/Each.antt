@@ -1,4 +1,4 @@
--- What is asked of each axis, and what is done to each, by one walk over them.
+-- What is asked of each axis that a number means, and what is done to each.
 -- Each question is one of the rules of the crates below.
 use mathlib.Core.Bool.{Bool, not}
 use Prim.Native.Nat.{ℕ, _-_, min}

@@ -1,3 +1,5 @@
+-- The setting and the axis.
+-- Assumes nothing.
 use borrow.Author.Needs.{needs}
 use Rattle.orders.proofs.busy_to_set.Statement.{statement}
 use Rattle.orders.proofs.busy_to_set.Tie as tie

@@ -1,3 +1,5 @@
+-- A setting of an axis and one of the device.
+-- Assumes nothing.
 use borrow.Author.Needs.{needs}
 use Rattle.orders.proofs.put.Statement.{statement}
 use Rattle.orders.proofs.put.Tie as tie

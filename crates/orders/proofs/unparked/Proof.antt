@@ -1,3 +1,5 @@
+-- Each arm gives its row of the table.
+-- Assumes nothing.
 use borrow.Author.Needs.{needs}
 use Rattle.orders.proofs.unparked.Statement.{statement}
 use Rattle.orders.proofs.unparked.Tie as tie

@@ -1,3 +1,5 @@
+-- Each place from 1 to 7.
+-- Assumes nothing.
 use mathlib.Core.Path.{_≡_}
 use native.Mathlib.Omega.{arith}
 use Rattle.reports.proofs.bit.Statement.{statement}

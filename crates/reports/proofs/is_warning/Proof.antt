@@ -1,3 +1,5 @@
+-- The two tests on the place.
+-- Assumes nothing.
 use borrow.Author.Needs.{needs}
 use Rattle.reports.proofs.is_warning.Statement.{statement}
 use Rattle.reports.proofs.is_warning.Tie as tie

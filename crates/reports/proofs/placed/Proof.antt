@@ -1,3 +1,5 @@
+-- The axis in its motion, with pos and reference set.
+-- Assumes nothing.
 use borrow.Author.Needs.{needs}
 use Rattle.reports.proofs.placed.Statement.{statement}
 use Rattle.reports.proofs.placed.Tie as tie

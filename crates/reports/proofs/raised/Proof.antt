@@ -1,3 +1,5 @@
+-- Below 1, above 7, and between.
+-- Assumes nothing.
 use borrow.Author.Tests.{le-leb, lt-leb}
 use Rattle.reports.specs.Warnings.{raised}
 use borrow.Author.Needs.{needs}

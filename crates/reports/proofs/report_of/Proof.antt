@@ -1,3 +1,5 @@
+-- Each kind from 1 to 5, and any other.
+-- Assumes nothing.
 use native.Mathlib.Omega.{arith}
 use mathlib.Core.Path.{sym, _∙_}
 use Rattle.reports.specs.Reports.{reportOf}

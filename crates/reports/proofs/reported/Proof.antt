@@ -1,3 +1,5 @@
+-- Each kind of report.
+-- Assumes nothing.
 use borrow.Author.Needs.{needs}
 use Rattle.reports.proofs.reported.Statement.{statement}
 use Rattle.reports.proofs.reported.Tie as tie

@@ -1,3 +1,5 @@
+-- With a reference, what lies within the limits; without one, none.
+-- Assumes nothing.
 use mathlib.Core.Path.{_∙_}
 use Rattle.axis.proofs.Aim.{aim-within, aim-none}
 use borrow.Author.Needs.{needs}

@@ -1,3 +1,5 @@
+-- The fresh settings, and all else as document 01 has it.
+-- Assumes nothing.
 use Rattle.axis.specs.Record.{freshAxis}
 use borrow.Author.Needs.{needs}
 use Rattle.axis.proofs.Axis.fresh.Statement.{statement}

@@ -1,3 +1,5 @@
+-- The three parts of goodness, each from its own function.
+-- Assumes nothing.
 use Rattle.axis.specs.Good.{goodAxis}
 use borrow.Author.Needs.{needs}
 use Rattle.axis.proofs.Axis.good.Statement.{statement}

@@ -1,3 +1,5 @@
+-- The axis may move where it has an aim.
+-- Assumes nothing.
 use mathlib.Core.Path.{sym, _∙_}
 use Rattle.axis.proofs.Aim.{may, may-not}
 use borrow.Author.Needs.{needs}

@@ -1,3 +1,5 @@
+-- A speed within the highest one, both ways.
+-- Assumes nothing.
 use Rattle.axis.specs.Travel.{mayRunAt}
 use borrow.Author.Needs.{needs}
 use Rattle.axis.proofs.Axis.may_run_at.Statement.{statement}

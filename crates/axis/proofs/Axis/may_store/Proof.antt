@@ -1,3 +1,5 @@
+-- A number from 1 to 16, and a position between the limits.
+-- Assumes nothing.
 use Rattle.axis.specs.Travel.{mayStore}
 use borrow.Author.Needs.{needs}
 use Rattle.axis.proofs.Axis.may_store.Statement.{statement}

@@ -1,3 +1,5 @@
+-- To the aim, where there is one.
+-- Assumes nothing.
 use mathlib.Core.Path.{sym, _∙_}
 use Rattle.axis.proofs.Aim.{moved-to, moved-not}
 use borrow.Author.Needs.{needs}

@@ -1,3 +1,5 @@
+-- A moving axis and an idle one.
+-- Assumes nothing.
 use Rattle.axis.specs.Record.{stopped}
 use borrow.Author.Needs.{needs}
 use Rattle.axis.proofs.Axis.stopped.Statement.{statement}

@@ -1,3 +1,5 @@
+-- Below 1, above 16, and between.
+-- Assumes nothing.
 use borrow.Author.Tests.{le-leb, lt-leb}
 use Rattle.axis.specs.Moves.{store}
 use borrow.Author.Needs.{needs}

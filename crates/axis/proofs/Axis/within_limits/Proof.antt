@@ -1,3 +1,5 @@
+-- Each kind of target, compared with the limits.
+-- Assumes nothing.
 use borrow.Author.Needs.{needs}
 use Rattle.axis.proofs.Axis.within_limits.Statement.{statement}
 use Rattle.axis.proofs.Axis.within_limits.Tie as tie

@@ -1,3 +1,5 @@
+-- Each kind of motion.
+-- Assumes nothing.
 use borrow.Author.Needs.{needs}
 use Rattle.axis.proofs.Motion.good.Statement.{statement}
 use Rattle.axis.proofs.Motion.good.Tie as tie

@@ -1,3 +1,5 @@
+-- The two tests on the place.
+-- Assumes nothing.
 use borrow.Author.Needs.{needs}
 use Rattle.axis.proofs.travel.is_place.Statement.{statement}
 use Rattle.axis.proofs.travel.is_place.Tie as tie

@@ -1,3 +1,5 @@
+-- Each arm gives its row of the table.
+-- Assumes nothing.
 use borrow.Author.Needs.{needs}
 use Rattle.device.proofs.effects.after.Statement.{statement}
 use Rattle.device.proofs.effects.after.Tie as tie

@@ -1,3 +1,5 @@
+-- The axes first, then the device.
+-- Assumes nothing.
 use Rattle.device.specs.Effects.{next}
 use borrow.Author.Needs.{needs}
 use Rattle.device.proofs.effects.next.Statement.{statement}

@@ -1,3 +1,5 @@
+-- A setting of an axis and one of the device.
+-- Assumes nothing.
 use borrow.Author.Needs.{needs}
 use Rattle.device.proofs.effects.put_setting.Statement.{statement}
 use Rattle.device.proofs.effects.put_setting.Tie as tie

@@ -1,3 +1,5 @@
+-- The axis, and what it takes.
+-- Assumes nothing.
 use Rattle.device.specs.Reports.{badReport}
 use borrow.Author.Needs.{needs}
 use Rattle.device.proofs.motor.bad_report.Statement.{statement}

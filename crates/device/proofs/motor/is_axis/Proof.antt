@@ -1,3 +1,5 @@
+-- The two tests on the number.
+-- Assumes nothing.
 use Rattle.device.specs.Reports.{isAxis}
 use mathlib.Core.Path.{refl}
 use borrow.Author.Needs.{needs}

@@ -1,3 +1,5 @@
+-- The table of two rows, row by row.
+-- Assumes nothing.
 use mathlib.Core.Path.{sym, _∙_}
 use Rattle.laws.specs.Refusals.{firstOf}
 use Rattle.device.specs.Reports.{reportRefusal}

@@ -1,3 +1,5 @@
+-- The number and the count.
+-- Assumes nothing.
 use Rattle.device.specs.Refusals.{badAxis}
 use mathlib.Core.Path.{refl}
 use borrow.Author.Needs.{needs}

@@ -1,3 +1,5 @@
+-- Not every axis permits it.
+-- Assumes nothing.
 use Rattle.device.specs.Refusals.{badData}
 use borrow.Author.Needs.{needs}
 use Rattle.device.proofs.refusals.bad_data.Statement.{statement}

@@ -1,3 +1,5 @@
+-- The number and the scope.
+-- Assumes nothing.
 use Rattle.device.specs.Refusals.{deviceOnly}
 use borrow.Author.Needs.{needs}
 use Rattle.device.proofs.refusals.device_only.Statement.{statement}

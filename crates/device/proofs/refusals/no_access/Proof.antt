@@ -1,3 +1,5 @@
+-- The access that there is and the access that it takes.
+-- Assumes nothing.
 use Rattle.device.specs.Refusals.{noAccess}
 use borrow.Author.Needs.{needs}
 use Rattle.device.proofs.refusals.no_access.Statement.{statement}

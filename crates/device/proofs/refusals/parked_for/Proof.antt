@@ -1,3 +1,5 @@
+-- The device and the command.
+-- Assumes nothing.
 use Rattle.device.specs.Refusals.{parked}
 use borrow.Author.Needs.{needs}
 use Rattle.device.proofs.refusals.parked_for.Statement.{statement}

@@ -1,3 +1,5 @@
+-- The table, row by row: each row that was passed, and the one that applies.
+-- Assumes nothing.
 use Rattle.laws.specs.Refusals.{firstOf}
 use mathlib.Core.Path.{sym, _∙_}
 use Rattle.device.specs.Refusals.{refusal}

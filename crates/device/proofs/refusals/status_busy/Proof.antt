@@ -1,3 +1,5 @@
+-- Some axis is busy where not every axis is free.
+-- Assumes nothing.
 use mathlib.Core.Path.{sym}
 use Rattle.laws.proofs.Folds.{any-all}
 use Rattle.orders.specs.Commands.{demands}

@@ -1,3 +1,5 @@
+-- A setting of an axis and one of the device.
+-- Assumes nothing.
 use borrow.Author.Needs.{needs}
 use Rattle.settings.proofs.Settings.allows.Statement.{statement}
 use Rattle.settings.proofs.Settings.allows.Tie as tie

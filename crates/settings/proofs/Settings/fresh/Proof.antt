@@ -1,3 +1,5 @@
+-- The values that document 01 has.
+-- Assumes nothing.
 use mathlib.Core.Path.{refl}
 use Rattle.settings.specs.Record.{freshSettings}
 use Rattle.settings.proofs.Settings.fresh.Statement.{statement}

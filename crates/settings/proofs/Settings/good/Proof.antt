@@ -1,3 +1,5 @@
+-- Every setting of the table, in its order.
+-- Assumes nothing.
 use Rattle.laws.specs.Lists.{fold}
 use Rattle.laws.proofs.Bools.{and-true}
 use Rattle.command.specs.Settings.{axisSettings}

@@ -1,3 +1,5 @@
+-- The value and the range.
+-- Assumes nothing.
 use borrow.Author.Needs.{needs}
 use Rattle.settings.proofs.Settings.in_range.Statement.{statement}
 use Rattle.settings.proofs.Settings.in_range.Tie as tie

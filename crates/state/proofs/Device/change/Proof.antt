@@ -1,3 +1,5 @@
+-- The walk over the places that k means.
+-- Assumes nothing.
 use Rattle.state.specs.Each.{changed}
 use Rattle.state.proofs.Parts.{part-inside, part-change}
 use borrow.Author.Needs.{needs}

@@ -1,3 +1,5 @@
+-- The walk over the places that k means.
+-- Assumes nothing.
 use mathlib.Core.Path.{ap, _∙_}
 use Rattle.laws.specs.Lists.{all}
 use Rattle.state.specs.Each.{passes}

@@ -1,3 +1,5 @@
+-- In range and out of range.
+-- Assumes nothing.
 use Rattle.state.specs.Good.{askFresh}
 use borrow.Author.Needs.{needs}
 use Rattle.state.proofs.Device.fresh.Statement.{statement}

@@ -1,3 +1,5 @@
+-- The three parts of goodness, each from its own function.
+-- Assumes nothing.
 use Rattle.state.specs.Good.{good}
 use borrow.Author.Needs.{needs}
 use Rattle.state.proofs.Device.good.Statement.{statement}

@@ -1,3 +1,5 @@
+-- The value and the range.
+-- Assumes nothing.
 use borrow.Author.Needs.{needs}
 use Rattle.state.proofs.Device.in_range.Statement.{statement}
 use Rattle.state.proofs.Device.in_range.Tie as tie

@@ -1,3 +1,5 @@
+-- All axes, and one.
+-- Assumes nothing.
 use Rattle.state.specs.Record.{many}
 use borrow.Author.Tests.{eq-eqb, ne-eqb}
 use borrow.Author.Needs.{needs}

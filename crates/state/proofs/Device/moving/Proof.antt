@@ -1,3 +1,5 @@
+-- Some axis moves where not every axis is at rest.
+-- Assumes nothing.
 use mathlib.Core.Path.{sym}
 use Rattle.laws.proofs.Folds.{any-all}
 use Rattle.axis.specs.Record.{moving}

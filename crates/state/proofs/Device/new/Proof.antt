@@ -1,3 +1,5 @@
+-- The fresh axis four times, and all else as document 01 has it.
+-- Assumes nothing.
 use Rattle.state.specs.Record.{fresh}
 use borrow.Author.Needs.{needs}
 use Rattle.state.proofs.Device.new.Statement.{statement}

@@ -1,3 +1,5 @@
+-- The place before, and how many, of the four that there are.
+-- Assumes nothing.
 use Rattle.state.specs.Each.{partOf}
 use borrow.Author.Needs.{needs}
 use Rattle.state.proofs.Device.part.Statement.{statement}

@@ -1,3 +1,5 @@
+-- Each arm gives its row of the table.
+-- Assumes nothing.
 use borrow.Author.Needs.{needs}
 use Rattle.state.proofs.Device.value.Statement.{statement}
 use Rattle.state.proofs.Device.value.Tie as tie

@@ -1,4 +1,5 @@
 -- The invariant: the flags of the axes so far, joined with those of the rest, are the flags of all.
+-- Assumes nothing.
 use Prim.Native.Nat.{_≤_, _-_}
 use mathlib.Core.Path.{_≡_, sym, ap, _∙_}
 use native.Mathlib.Omega.{arith}

@@ -1,4 +1,5 @@
 -- The invariant: what was tested so far, and the test of the rest, are the test of all.
+-- Assumes nothing.
 use Prim.Native.Nat.{_≤_, _-_}
 use mathlib.Core.Path.{_≡_, refl, sym, ap, _∙_}
 use mathlib.Core.Bool.{_&&_}

@@ -1,4 +1,5 @@
 -- The invariant: the first n of the axes are changed.
+-- Assumes nothing.
 use Prim.Native.Nat.{ℕ, _≤_, _-_}
 use mathlib.Core.Path.{_≡_, sym, ap, _∙_}
 use native.Mathlib.Omega.{arith}

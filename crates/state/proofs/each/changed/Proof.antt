@@ -1,3 +1,5 @@
+-- A command and a report.
+-- Assumes nothing.
 use borrow.Author.Needs.{needs}
 use Rattle.state.proofs.each.changed.Statement.{statement}
 use Rattle.state.proofs.each.changed.Tie as tie

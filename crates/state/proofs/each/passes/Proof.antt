@@ -1,3 +1,5 @@
+-- Each kind of question.
+-- Assumes nothing.
 use borrow.Author.Needs.{needs}
 use Rattle.state.proofs.each.passes.Statement.{statement}
 use Rattle.state.proofs.each.passes.Tie as tie

@@ -1,3 +1,5 @@
+-- The three ranges.
+-- Assumes nothing.
 use Rattle.state.specs.Good.{mayBeFresh}
 use borrow.Author.Needs.{needs}
 use Rattle.state.proofs.good.may_be_fresh.Statement.{statement}

@@ -1,3 +1,5 @@
+-- The range from end to end.
+-- Assumes nothing.
 use borrow.Author.Needs.{needs}
 use Rattle.units.proofs.Speed.bounded.Statement.{statement}
 use Rattle.units.proofs.Speed.bounded.Tie as tie
