@@ -67,7 +67,7 @@ unfolding echoed trail
 echoed-some w ws =
     rw (spaced-trail w (take 16 ws), length-append w (trail (take 16 ws)), length-append (space ∷ w) (trail ws)) (omega (arith, trail-take 16 ws))
 
-echoed-none : length (echoed []) ≡ 1
+pub echoed-none : length (echoed []) ≡ 1
 unfolding echoed text
 echoed-none = refl
 

@@ -1,0 +1,104 @@
+-- What a line makes of a record and a buffer: number, length, next record and every byte. Document 01's table of refusals
+-- in its order: 20, 21, 2, 1, 3, 4, 5 (silence), 10, 11 (the reader), 12, 13, 14, 15, 16, 11 (the device).
+use mathlib.Core.Path.{_≡_}
+use mathlib.Core.Bool.{Bool, true, false, cond, not, _||_}
+use mathlib.Core.List.{List, [], _∷_, _++_}
+use Prim.Native.Nat.{ℕ}
+use lib.Dec.{eqb, ltb}
+use lib.ListN.{length, drop}
+use Rattle.laws.specs.Text.{text}
+use Rattle.laws.specs.Refusals.{_when_, firstOf}
+use Rattle.units.specs.Units.{place}
+use Rattle.command.specs.declared.Command.{Command}
+use Rattle.phrase.specs.declared.WordsRead.{WordsRead}
+use Rattle.phrase.specs.declared.WordsRead.the-variants as Words
+use Rattle.phrase.specs.Reading.{echoOf}
+use Rattle.line.specs.declared.LineRead.{LineRead}
+use Rattle.line.specs.declared.LineRead.the-variants.{Silent, Addressed}
+use Rattle.line.specs.Reading.{readLine, wordsOf}
+use Rattle.state.specs.declared.Device.{Device}
+use Rattle.state.specs.Good.{good}
+use Rattle.device.specs.Refusals.{refusal}
+use Rattle.device.specs.Effects.{next}
+use Rattle.data.specs.Data.{refusalName}
+use Rattle.reply.specs.Reply.{reply}
+use Rattle.view.specs.View.{headOf}
+use Rattle.carriage.specs.declared.Answer.{Answer}
+use Rattle.shown.specs.Data.{dataOf}
+
+-- the answer, and the buffer as it is left
+pub record Stepped : Type 0 where
+  pub answer : Answer
+  pub buffer : List ℕ
+
+-- "1 to 5, 20, 21 are silent: length 0, nothing written"
+unfoldable pub silent : ℕ → Device → List ℕ → Stepped
+silent n d b = record { answer = record { number = n; length = 0; next = d }; buffer = b }
+
+-- "Buffer bytes after what is written keep their values."
+unfoldable pub written : ℕ → Device → List ℕ → List ℕ → Stepped
+written n d t b = record { answer = record { number = n; length = length t; next = d }; buffer = t ++ drop (length t) b }
+
+-- "`:CC` ... if comm.checksum is 1"
+unfoldable pub wantsSum : Device → Bool
+wantsSum d = eqb (place (d .comm .checksum .0)) 1
+
+unfoldable pub replyOf : Device → ℕ → Bool → List ℕ → List ℕ
+replyOf d k ok words = reply (headOf d k ok) (wantsSum d) words
+
+-- "10 to 16 write the rejecting reply, its data the name, and change no record"
+unfoldable pub rejected : ℕ → Device → ℕ → List ℕ → Stepped
+rejected n d k b = written n d (replyOf d k false (refusalName n)) b
+
+-- "A reply describes the record after the command."
+unfoldable pub accepted : Device → ℕ → List (List ℕ) → Command → List ℕ → Stepped
+accepted d k es c b = written 0 (next d k c) (replyOf (next d k c) k true (dataOf d k es c)) b
+
+-- a command for axis k, with the words es of an echo
+unfoldable pub obeyed : Device → ℕ → List (List ℕ) → Command → List ℕ → Stepped
+obeyed d k es c b = cond (eqb (refusal d k c) 0) (accepted d k es c b) (rejected (refusal d k c) d k b)
+
+-- "neither 0 nor own address"
+unfoldable pub concerns : Device → ℕ → Bool
+concerns d n = eqb n 0 || eqb n (place (d .comm .address .0))
+
+-- the silent refusals of what was read: the reader's 2, 1, 3 or 4; and 5
+abbrev pub unread : LineRead → ℕ
+unread (Silent n) = n
+unread (Addressed n k skip w) = 0
+
+abbrev pub notMine : Device → LineRead → Bool
+notMine d (Silent n) = false
+notMine d (Addressed n k skip w) = not (concerns d n)
+
+-- "Checks run in the table's order and the first that applies wins."
+unfoldable pub silence : Device → LineRead → List ℕ → ℕ
+silence d r b =
+    firstOf
+    (20 when ltb (length b) 96
+    ∷ 21 when not (good d)
+    ∷ unread r when not (eqb (unread r) 0)
+    ∷ 5 when notMine d r
+    ∷ [])
+
+-- the reader's 10 or 11, or its command, whose own words stand behind `skip` others of the line's words ws
+abbrev pub addressed : Device → List (List ℕ) → ℕ → ℕ → WordsRead → List ℕ → Stepped
+addressed d ws k skip (Words.Refused m) b = rejected m d k b
+addressed d ws k skip (Words.Command c) b = obeyed d k (echoOf c (drop skip ws)) c b
+
+-- what is not met with silence
+abbrev pub answered : Device → List (List ℕ) → LineRead → List ℕ → Stepped
+answered d ws (Silent n) b = silent n d b
+answered d ws (Addressed n k skip w) b = addressed d ws k skip w b
+
+unfoldable pub respond : Device → List (List ℕ) → LineRead → List ℕ → Stepped
+respond d ws r b = cond (eqb (silence d r b) 0) (answered d ws r b) (silent (silence d r b) d b)
+
+-- the device, a line's bytes and the lent buffer
+unfoldable pub step : Device → List ℕ → List ℕ → Stepped
+step d l b = respond d (wordsOf l) (readLine l) b
+
+-- a result and a buffer that are just what a step makes
+pub record Gives (s : Stepped) (r : Answer) (c : List ℕ) : Type 0 where
+  pub result : r ≡ s .answer
+  pub left : c ≡ s .buffer
