@@ -18,7 +18,8 @@ read-command-requires c κs = search needs
 
 returns : tie.Need-returns
 unfolding axisOf
-returns c = rw (← c .before .before .before .before .first-word .ensures, ← c .before .before .before .axis-digit .ensures, lt-ltb _ _ (c .before .before .if1 .taken), ← c .before .past-word .ensures .1, ← c .read-command .ensures .0)
+returns c =
+    rw (← c .before .before .before .before .first-word .ensures, ← c .before .before .before .axis-digit .ensures, lt-ltb _ _ (c .before .before .if1 .taken), ← c .before .past-word .ensures .1, ← c .read-command .ensures .0)
 
 read-command-requires-2 : tie.Need-read-command-requires-2
 read-command-requires-2 c κs = search needs

@@ -41,10 +41,12 @@ says-sum-requires : tie.Need-says-sum-requires
 says-sum-requires c κs = search needs
 
 returns-3 : tie.Need-returns-3
-returns-3 c = sym (sum-is _ _ (c .before .before .before .before .before .before .before .before .colon-at .ensures) true (c .before .before .before .before .before .before .if2 .left) (c .before .before .read-pair .ensures) (sym (c .if3 .taken) ∙ c .before .says-sum .ensures))
+returns-3 c =
+    sym (sum-is _ _ (c .before .before .before .before .before .before .before .before .colon-at .ensures) true (c .before .before .before .before .before .before .if2 .left) (c .before .before .read-pair .ensures) (sym (c .if3 .taken) ∙ c .before .says-sum .ensures))
 
 returns-4 : tie.Need-returns-4
-returns-4 c = sym (sum-is _ _ (c .before .before .before .before .before .before .before .before .colon-at .ensures) false (c .before .before .before .before .before .before .if2 .left) (c .before .before .read-pair .ensures) (sym (c .if3 .left) ∙ c .before .says-sum .ensures))
+returns-4 c =
+    sym (sum-is _ _ (c .before .before .before .before .before .before .before .before .colon-at .ensures) false (c .before .before .before .before .before .before .if2 .left) (c .before .before .read-pair .ensures) (sym (c .if3 .left) ∙ c .before .says-sum .ensures))
 
 pub read-body-spec : {M : Type 1} → statement M
 read-body-spec =

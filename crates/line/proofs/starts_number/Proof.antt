@@ -28,7 +28,8 @@ digit-value-requires : tie.Need-digit-value-requires
 digit-value-requires c κs = search needs
 
 returns-4 : tie.Need-returns-4
-returns-4 c = ap (λ (k : ℕ). ltb k 10) (c .digit-value .ensures) ∙ sym (starts-digit _ (c .before .before .before .before .before .before .if1 .left) (c .before .before .before .before .if2 .left) (c .before .before .if3 .left))
+returns-4 c =
+    ap (λ (k : ℕ). ltb k 10) (c .digit-value .ensures) ∙ sym (starts-digit _ (c .before .before .before .before .before .before .if1 .left) (c .before .before .before .before .if2 .left) (c .before .before .if3 .left))
 
 pub starts-number-spec : {M : Type 1} → statement M
 starts-number-spec =

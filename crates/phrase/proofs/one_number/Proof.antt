@@ -20,7 +20,8 @@ made-requires c κs = search needs
 
 returns : tie.Need-returns
 returns c =
-    number-alone _ _ _ _ (c .before .before .before .before .before .first-word .ensures) (c .before .before .before .before .past-word .ensures .1) (c .before .before .before .first-word2 .ensures) _ (c .before .before .if1 .taken) (c .before .read-number .ensures) (c .made .ensures)
+    number-alone _ _ _ _ (c .before .before .before .before .before .first-word .ensures) (c .before .before .before .before .past-word .ensures .1)
+    (c .before .before .before .first-word2 .ensures) _ (c .before .before .if1 .taken) (c .before .read-number .ensures) (c .made .ensures)
 
 returns-2 : tie.Need-returns-2
 returns-2 c = number-more _ _ _ _ (c .before .before .before .first-word .ensures) (c .before .before .past-word .ensures .1) (c .before .first-word2 .ensures) _ (c .if1 .left)

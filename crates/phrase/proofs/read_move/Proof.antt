@@ -24,7 +24,9 @@ move-at-requires c κs = search needs
 
 returns : tie.Need-returns
 unfolding readMove cut isSpace noSpace grow text
-returns c = looked-up moves (Refused 10) _ _ _ _ (c .before .before .before .before .first-word .ensures) (c .before .past-word .ensures .1) (c .before .before .find-word .ensures) (c .move-at .ensures)
+returns c =
+    looked-up moves (Refused 10) _ _ _ _ (c .before .before .before .before .first-word .ensures) (c .before .past-word .ensures .1)
+    (c .before .before .find-word .ensures) (c .move-at .ensures)
 
 pub read-move-spec : {M : Type 1} → statement M
 read-move-spec =

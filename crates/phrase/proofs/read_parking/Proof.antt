@@ -24,7 +24,9 @@ parking-at-requires c κs = search needs
 
 returns : tie.Need-returns
 unfolding readParking cut isSpace noSpace grow text
-returns c = looked-up parkings (Refused 11) _ _ _ _ (c .before .before .before .before .first-word .ensures) (c .before .past-word .ensures .1) (c .before .before .find-word .ensures) (c .parking-at .ensures)
+returns c =
+    looked-up parkings (Refused 11) _ _ _ _ (c .before .before .before .before .first-word .ensures) (c .before .past-word .ensures .1)
+    (c .before .before .find-word .ensures) (c .parking-at .ensures)
 
 pub read-parking-spec : {M : Type 1} → statement M
 read-parking-spec =

@@ -21,7 +21,9 @@ made-requires : tie.Need-made-requires
 made-requires c κs = search needs
 
 returns : tie.Need-returns
-returns c = store-one _ _ _ _ (c .before .before .before .before .before .first-word .ensures) (c .before .before .before .past-word .ensures .1) (c .before .before .first-word2 .ensures) (c .before .if1 .taken) (c .before .before .before .before .read-number .ensures) (c .made .ensures)
+returns c =
+    store-one _ _ _ _ (c .before .before .before .before .before .first-word .ensures) (c .before .before .before .past-word .ensures .1)
+    (c .before .before .first-word2 .ensures) (c .before .if1 .taken) (c .before .before .before .before .read-number .ensures) (c .made .ensures)
 
 past-word-requires-2 : tie.Need-past-word-requires-2
 past-word-requires-2 c κs = search needs
@@ -31,7 +33,9 @@ first-word-requires-3 c κs = search needs
 
 returns-2 : tie.Need-returns-2
 returns-2 c =
-    store-more _ _ _ _ (c .before .before .before .before .before .before .before .first-word .ensures) (c .before .before .before .before .before .past-word .ensures .1) (c .before .before .before .before .first-word2 .ensures) (c .before .before .before .if1 .left) _ _ (c .before .before .past-word2 .ensures .1) (c .before .first-word3 .ensures) (c .if2 .taken)
+    let v = c .before .before .before in
+    store-more _ _ _ _ (v .before .before .before .before .first-word .ensures) (v .before .before .past-word .ensures .1) (v .before .first-word2 .ensures) (v .if1 .left)
+    _ _ (c .before .before .past-word2 .ensures .1) (c .before .first-word3 .ensures) (c .if2 .taken)
 
 slice-aggregate-same-bytes : tie.Need-slice-aggregate-same-bytes
 slice-aggregate-same-bytes c = search needs
@@ -45,8 +49,11 @@ made-requires-2 c κs = search needs
 returns-3 : tie.Need-returns-3
 unfolding text
 returns-3 c =
-    store-current _ _ _ _ (c .before .before .before .before .before .before .before .before .before .before .before .first-word .ensures) (c .before .before .before .before .before .before .before .before .before .past-word .ensures .1) (c .before .before .before .before .before .before .before .before .first-word2 .ensures) (c .before .before .before .before .before .before .before .if1 .left) _ _ (c .before .before .before .before .before .before .past-word2 .ensures .1) (c .before .before .before .before .before .first-word3 .ensures) (c .before .before .before .before .if2 .left)
-    (c .before .before .before .before .before .before .before .before .before .before .read-number .ensures) (sym (c .before .before .same-bytes .ensures) ∙ c .before .if3 .taken) (c .made2 .ensures)
+    let u = c .before .before .before .before in
+    let v = u .before .before .before in
+    store-current _ _ _ _ (v .before .before .before .before .first-word .ensures) (v .before .before .past-word .ensures .1) (v .before .first-word2 .ensures) (v .if1 .left)
+    _ _ (u .before .before .past-word2 .ensures .1) (u .before .first-word3 .ensures) (u .if2 .left)
+    (v .before .before .before .read-number .ensures) (sym (c .before .before .same-bytes .ensures) ∙ c .before .if3 .taken) (c .made2 .ensures)
 
 store-at-requires : tie.Need-store-at-requires
 store-at-requires c κs = search needs
@@ -54,8 +61,12 @@ store-at-requires c κs = search needs
 returns-4 : tie.Need-returns-4
 unfolding text
 returns-4 c =
-    c .store-at .ensures ∙ store-at _ _ _ _ (c .before .before .before .before .before .before .before .before .before .before .before .first-word .ensures) (c .before .before .before .before .before .before .before .before .before .past-word .ensures .1) (c .before .before .before .before .before .before .before .before .first-word2 .ensures) (c .before .before .before .before .before .before .before .if1 .left) _ _ (c .before .before .before .before .before .before .past-word2 .ensures .1) (c .before .before .before .before .before .first-word3 .ensures) (c .before .before .before .before .if2 .left)
-    (c .before .before .before .before .before .before .before .before .before .before .read-number .ensures) (sym (c .before .before .same-bytes .ensures) ∙ c .before .if3 .left)
+    let u = c .before .before .before .before in
+    let v = u .before .before .before in
+    c .store-at .ensures
+    ∙ store-at _ _ _ _ (v .before .before .before .before .first-word .ensures) (v .before .before .past-word .ensures .1) (v .before .first-word2 .ensures) (v .if1 .left)
+    _ _ (u .before .before .past-word2 .ensures .1) (u .before .first-word3 .ensures) (u .if2 .left)
+    (v .before .before .before .read-number .ensures) (sym (c .before .before .same-bytes .ensures) ∙ c .before .if3 .left)
 
 pub read-storepos-spec : {M : Type 1} → statement M
 read-storepos-spec =

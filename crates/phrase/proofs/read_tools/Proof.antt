@@ -24,7 +24,9 @@ tool-at-requires c κs = search needs
 
 returns : tie.Need-returns
 unfolding readTools cut isSpace noSpace grow text
-returns c = looked-up tools (Refused 10) _ _ _ _ (c .before .before .before .before .first-word .ensures) (c .before .past-word .ensures .1) (c .before .before .find-word .ensures) (c .tool-at .ensures)
+returns c =
+    looked-up tools (Refused 10) _ _ _ _ (c .before .before .before .before .first-word .ensures) (c .before .past-word .ensures .1)
+    (c .before .before .find-word .ensures) (c .tool-at .ensures)
 
 pub read-tools-spec : {M : Type 1} → statement M
 read-tools-spec =

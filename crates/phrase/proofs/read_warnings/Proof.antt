@@ -28,7 +28,9 @@ returns-2 : tie.Need-returns-2
 unfolding text
 returns-2 c =
     let a = c .before .before .before .before .before .before .before .before .args in
-    warnings-clear (drop (a .at) (a .s .now)) _ (c .before .before .before .before .before .before .first-word .ensures) (c .before .before .before .before .before .if1 .left) _ (c .before .past-word .ensures .1) (sym (c .before .before .before .same-bytes .ensures) ∙ c .before .before .if2 .taken) (c .ended-at .ensures)
+    warnings-clear (drop (a .at) (a .s .now)) _ (c .before .before .before .before .before .before .first-word .ensures)
+    (c .before .before .before .before .before .if1 .left) _ (c .before .past-word .ensures .1)
+    (sym (c .before .before .before .same-bytes .ensures) ∙ c .before .before .if2 .taken) (c .ended-at .ensures)
 
 returns-3 : tie.Need-returns-3
 unfolding text
