@@ -1,3 +1,5 @@
+-- A word of one byte, and any other.
+-- Assumes nothing.
 use Rattle.line.proofs.Steps.{axis-one, axis-not}
 use mathlib.Core.Path.{_∙_}
 use borrow.Author.Needs.{needs}

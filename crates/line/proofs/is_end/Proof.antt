@@ -1,3 +1,5 @@
+-- CR, or LF, or neither.
+-- Assumes nothing.
 use Rattle.line.specs.Reading.{isEnd}
 use borrow.Author.Tests.{eq-eqb, ne-eqb}
 use Rattle.line.proofs.is_end.Statement.{statement}

@@ -1,3 +1,5 @@
+-- One byte or two, each an end.
+-- Assumes nothing.
 use Rattle.line.proofs.Frames.{footer-1, footer-not, footer-2}
 use mathlib.Core.Bool.{true, false}
 use mathlib.Core.Path.{sym, _∙_}

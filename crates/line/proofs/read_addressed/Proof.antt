@@ -1,3 +1,5 @@
+-- A first word that is no address is 4.
+-- Assumes nothing.
 use borrow.Author.Needs.{needs}
 use Rattle.line.proofs.read_addressed.Statement.{statement}
 use Rattle.line.proofs.read_addressed.Tie as tie

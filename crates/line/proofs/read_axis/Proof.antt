@@ -1,3 +1,5 @@
+-- The first word behind the address is the axis, or the command begins with it.
+-- Assumes nothing.
 use Rattle.line.specs.Reading.{axisOf}
 use borrow.Author.Tests.{lt-ltb, le-ltb}
 use borrow.Author.Needs.{needs}

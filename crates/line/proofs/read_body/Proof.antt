@@ -1,3 +1,5 @@
+-- No colon; a colon that is not third from the end; a checksum, right or wrong.
+-- Assumes nothing.
 use Rattle.line.proofs.Frames.{no-sum, not-3, sum-is}
 use lib.ListN.{length-take}
 use native.Mathlib.Omega.{arith}

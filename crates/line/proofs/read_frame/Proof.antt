@@ -1,3 +1,5 @@
+-- Too long, empty, without its `/`, or read behind it.
+-- Assumes nothing.
 use Rattle.line.proofs.Frames.{too-long, empty, no-slash, slash-first}
 use Rattle.laws.proofs.Lists.{rest}
 use mathlib.Core.Path.{sym}

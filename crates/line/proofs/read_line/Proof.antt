@@ -1,3 +1,5 @@
+-- The frame refuses the line, or gives its content, whose words are read.
+-- Assumes nothing.
 use Rattle.line.proofs.Refused.{answered}
 use Rattle.line.proofs.Steps.{line-silent, line-words}
 use Rattle.line.proofs.Frames.{content-fits}

@@ -1,3 +1,5 @@
+-- The bytes up to the first forbidden one are the body, if what is left is a footer.
+-- Assumes nothing.
 use Rattle.line.proofs.Frames.{footer-yes, footer-no, tail-fits}
 use lib.ListN.{length-take}
 use native.Mathlib.Omega.{arith}

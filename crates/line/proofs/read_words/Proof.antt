@@ -1,3 +1,5 @@
+-- A first word that begins as a number is the address word; any other is the command's.
+-- Assumes nothing.
 use Rattle.line.specs.Reading.{readWords}
 use mathlib.Core.Path.{sym, _∙_}
 use borrow.Author.Needs.{needs}

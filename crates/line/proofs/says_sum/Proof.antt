@@ -1,3 +1,5 @@
+-- A pair that was read is compared with the checksum.
+-- Assumes nothing.
 use borrow.Author.Needs.{needs}
 use Rattle.line.proofs.says_sum.Statement.{statement}
 use Rattle.line.proofs.says_sum.Tie as tie

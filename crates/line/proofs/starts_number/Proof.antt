@@ -1,3 +1,5 @@
+-- By the first byte: none, a sign, or whether it is a digit.
+-- Assumes nothing.
 use Rattle.line.proofs.Steps.{starts-none, starts-plus, starts-minus, starts-digit}
 use lib.Dec.{ltb}
 use Prim.Native.Nat.{ℕ}

@@ -1,3 +1,5 @@
+-- A command where no word is left, and 11 where one is.
+-- Assumes nothing.
 use lib.ListN.{drop}
 use Rattle.phrase.proofs.Steps.{ended-yes, ended-not}
 use borrow.Author.Needs.{needs}

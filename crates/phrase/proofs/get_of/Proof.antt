@@ -1,3 +1,5 @@
+-- Behind `get`: a setting and no word more, or 10.
+-- Assumes nothing.
 use borrow.Author.Needs.{needs}
 use Rattle.phrase.proofs.get_of.Statement.{statement}
 use Rattle.phrase.proofs.get_of.Tie as tie

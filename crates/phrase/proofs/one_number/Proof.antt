@@ -1,3 +1,5 @@
+-- One word is left and is read as a number; a second one is too many.
+-- Assumes nothing.
 use Rattle.phrase.proofs.Steps.{number-alone, number-more}
 use borrow.Author.Needs.{needs}
 use Rattle.phrase.proofs.one_number.Statement.{statement}

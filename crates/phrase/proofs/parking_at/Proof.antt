@@ -1,3 +1,5 @@
+-- Each word that may follow `tools parking`, by its place; beyond the table, 11.
+-- Assumes nothing.
 use Rattle.phrase.specs.Reading.{parkings}
 use Rattle.laws.proofs.Order.{beyond}
 use Rattle.words.proofs.Table.{past-table}

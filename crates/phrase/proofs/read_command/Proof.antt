@@ -1,3 +1,5 @@
+-- No word is no command; a first word is looked up in the table of commands.
+-- Assumes nothing.
 use Rattle.phrase.proofs.Refused.{answered}
 use lib.ListN.{drop}
 use Rattle.laws.specs.Text.{text}

@@ -1,3 +1,5 @@
+-- The word behind `get` is read as a setting.
+-- Assumes nothing.
 use Rattle.phrase.specs.Reading.{readGet}
 use borrow.Author.Needs.{needs}
 use Rattle.phrase.proofs.read_get.Statement.{statement}

@@ -1,3 +1,5 @@
+-- The word behind `set` is read as a setting.
+-- Assumes nothing.
 use Rattle.phrase.specs.Reading.{readSet}
 use borrow.Author.Needs.{needs}
 use Rattle.phrase.proofs.read_set.Statement.{statement}

@@ -1,3 +1,5 @@
+-- A name is looked up in the table of settings.
+-- Assumes nothing.
 use mathlib.Core.Path.{_∙_}
 use Rattle.laws.specs.Text.{text}
 use Rattle.words.specs.Cutting.{cut, isSpace, noSpace, grow}

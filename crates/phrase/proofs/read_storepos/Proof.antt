@@ -1,3 +1,5 @@
+-- N, or N P, or N current: by how many words there are.
+-- Assumes nothing.
 use mathlib.Core.Path.{sym, _∙_}
 use Rattle.laws.specs.Text.{text}
 use Rattle.phrase.proofs.Steps.{store-one, store-more, store-current, store-at}

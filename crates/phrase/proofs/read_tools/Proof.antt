@@ -1,3 +1,5 @@
+-- The word behind `tools` is looked up in its table.
+-- Assumes nothing.
 use Rattle.laws.specs.Text.{text}
 use Rattle.words.specs.Cutting.{cut, isSpace, noSpace, grow}
 use Rattle.phrase.specs.Reading.{tools, readTools}

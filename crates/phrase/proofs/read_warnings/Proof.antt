@@ -1,3 +1,5 @@
+-- `warnings` alone, or with `clear`; any other word is 11.
+-- Assumes nothing.
 use mathlib.Core.Path.{sym, _∙_}
 use lib.ListN.{drop}
 use Rattle.laws.specs.Text.{text}

@@ -1,3 +1,5 @@
+-- Behind `set`: 10 for no setting and for one that is read only, else one number.
+-- Assumes nothing.
 use borrow.Author.Needs.{needs}
 use Rattle.phrase.proofs.set_of.Statement.{statement}
 use Rattle.phrase.proofs.set_of.Tie as tie

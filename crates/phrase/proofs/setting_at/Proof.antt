@@ -1,3 +1,5 @@
+-- Each setting by the place of its name; beyond the table, none.
+-- Assumes nothing.
 use Rattle.phrase.specs.Reading.{names}
 use Rattle.laws.proofs.Order.{beyond}
 use Rattle.words.proofs.Table.{past-table}

@@ -1,3 +1,5 @@
+-- A number and a position, or 11.
+-- Assumes nothing.
 use borrow.Author.Needs.{needs}
 use Rattle.phrase.proofs.store_at.Statement.{statement}
 use Rattle.phrase.proofs.store_at.Tie as tie

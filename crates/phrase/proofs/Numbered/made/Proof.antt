@@ -1,3 +1,5 @@
+-- The row with its number, or 11 where the word is none.
+-- Assumes nothing.
 use borrow.Author.Needs.{needs}
 use Rattle.phrase.proofs.Numbered.made.Statement.{statement}
 use Rattle.phrase.proofs.Numbered.made.Tie as tie

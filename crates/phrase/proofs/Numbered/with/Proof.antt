@@ -1,3 +1,5 @@
+-- Each row with its number, by the row.
+-- Assumes nothing.
 use borrow.Author.Needs.{needs}
 use Rattle.phrase.proofs.Numbered.with.Statement.{statement}
 use Rattle.phrase.proofs.Numbered.with.Tie as tie
