@@ -15,7 +15,8 @@ use Rattle.phrase.specs.Types.{Target, Abs, Rel, Min, Max, Stored, Command, Not
 use Rattle.phrase.specs.Spelling.{Row}
 use Rattle.phrase.specs.Reading.{isEcho}
 use Rattle.host.specs.Reading.{dataByte}
-use Rattle.writer.specs.Writing.{targetWords, commandWords, unfit}
+use Rattle.rows.specs.Rows.{targetWords, commandWords}
+use Rattle.writer.specs.Writing.{unfit}
 use Rattle.readback.specs.Held.{TargetHeld, Held}
 use Rattle.readback.proofs.Words.{word-of, name-word, number-word, message-words}
 

@@ -1,3 +1,3 @@
-pub mod Texts
+pub mod Ends
 pub mod Fits
 pub mod Lines

@@ -19,7 +19,8 @@ use Rattle.words.specs.Cutting.{cut}
 use Rattle.phrase.specs.Types.{Command}
 use Rattle.wire.specs.Wrote.{Wrote}
 use Rattle.wire.proofs.Wrote.{_▸_, wrote-room, wrote-read}
-use Rattle.writer.specs.Writing.{commandWords, lineWords, lineEnd, lineText, unspellable, writerRefusal, outcome, writeLine}
+use Rattle.rows.specs.Rows.{commandWords}
+use Rattle.writer.specs.Writing.{lineWords, lineEnd, lineText, unspellable, writerRefusal, outcome, writeLine}
 
 -- what is left of a write where the buffer is full before its end
 full : {b : List ℕ} (p q t : List ℕ) {c : List ℕ} {r : ℕ} → length b ≤ length p → Wrote b 0 (p ++ q) c r → Wrote b 0 (p ++ t) c r

@@ -1,165 +1,25 @@
 // The host's command writer: a command's line into a lent buffer, or a refusal that writes nothing.
 // specs/Writing.antt says the line; proofs/ReadsBack.antt shows that the device reads it as the same command.
 ghost use mathlib.Core.Path.{_≡_};
-ghost use mathlib.Core.List.{_++_, _∷_, []};
+ghost use mathlib.Core.List.{_++_};
 ghost use lib.ListN.{take, drop};
 ghost use Rattle.laws.specs.Lists.{all};
-ghost use Rattle.laws.specs.Text.{space, text, spaced};
-ghost use Rattle.laws.proofs.Spaced.{trail};
-ghost use Rattle.number.specs.Decimal.{decimal};
-ghost use Rattle.words.specs.Cutting.{cut};
-ghost use Rattle.command.specs.Settings.{nameOf};
+ghost use Rattle.laws.specs.Text.{text, spaced};
 ghost use Rattle.wire.specs.Wrote.{Wrote};
 ghost use Rattle.host.specs.Reading.{dataByte};
-ghost use Rattle.writer.specs.Places.{axisPlace, devicePlace, placeOf};
-ghost use Rattle.writer.specs.Writing.{targetWords, commandWords, lineWords, lineEnd, lineText, unfit, unspellable, outcome, writeLine};
-use command::AxisSetting;
+ghost use Rattle.writer.specs.Writing.{lineWords, lineEnd, lineText, unfit, unspellable, outcome, writeLine};
 use command::Command;
-use command::DeviceSetting;
-use command::Setting;
-use command::Target;
-use units::Number;
+use rows::put_command;
 use wire::put_byte;
 use wire::put_number;
 use wire::put_pair;
-use wire::put_signed;
 use wire::put_text;
 use wire::put_two;
-use words::Next;
 
 // A refusal's number and length 0, or 0 and the line's length.
 pub struct Written {
     pub number: u8,
     pub length: usize,
-}
-
-fn axis_place(s: AxisSetting) -> usize
-    ensures { λ r. ⌜ r ≡ axisPlace s ⌝ }
-{
-    match s {
-        AxisSetting::Pos => 0,
-        AxisSetting::LimitMin => 1,
-        AxisSetting::LimitMax => 2,
-        AxisSetting::MaxSpeed => 3,
-        AxisSetting::Accel => 4,
-        AxisSetting::DriverCurrentMax => 5,
-        AxisSetting::DriverCurrentRun => 6,
-        AxisSetting::DriverCurrentHold => 7,
-        AxisSetting::DriverDir => 8,
-        AxisSetting::EncoderIndexCount => 9,
-    }
-}
-
-fn device_place(s: DeviceSetting) -> usize
-    ensures { λ r. ⌜ r ≡ devicePlace s ⌝ }
-{
-    match s {
-        DeviceSetting::CommAddress => 10,
-        DeviceSetting::CommAlert => 11,
-        DeviceSetting::CommChecksum => 12,
-        DeviceSetting::SystemAccess => 13,
-        DeviceSetting::DeviceId => 14,
-        DeviceSetting::SystemAxisCount => 15,
-    }
-}
-
-fn place_of(s: Setting) -> usize
-    ensures { λ r. ⌜ r ≡ placeOf s ⌝ }
-{
-    match s {
-        Setting::OfAxis(a) => axis_place(a),
-        Setting::OfDevice(d) => device_place(d),
-    }
-}
-
-// A text, and a setting's name behind it.
-fn put_setting(buf: &mut [u8], at: usize, t: &[u8], s: Setting) -> usize
-    ensures { λ r. ⌜ Wrote (now (buf .entry)) at (now (t .entry) ++ nameOf s) (now (buf .exit)) r ⌝ }
-{
-    let next = put_text(buf, at, t);
-    let name = words::nth_word(
-        b"pos limit.min limit.max maxspeed accel driver.current.max driver.current.run driver.current.hold driver.dir encoder.index.count comm.address comm.alert comm.checksum system.access deviceid system.axiscount",
-        place_of(s),
-    );
-    put_text(buf, next, name)
-}
-
-// A text, and a number behind it.
-fn put_numbered(buf: &mut [u8], at: usize, t: &[u8], n: Number) -> usize
-    ensures { λ r. ⌜ Wrote (now (buf .entry)) at (now (t .entry) ++ decimal (n .0)) (now (buf .exit)) r ⌝ }
-{
-    let next = put_text(buf, at, t);
-    put_signed(buf, next, n)
-}
-
-// Each word of a message behind a space.
-fn put_message(buf: &mut [u8], at: usize, message: &[u8]) -> usize
-    ensures { λ r. ⌜ Wrote (now (buf .entry)) at (trail (cut (now (message .entry)))) (now (buf .exit)) r ⌝ }
-{
-    let mut next = at;
-    let mut place: usize = 0;
-    while place < message.len() {
-        match words::next_word(message, place) {
-            Next::End => {
-                return next;
-            }
-            Next::Word { start, end } => {
-                let gap = put_byte(buf, next, b' ');
-                next = put_text(buf, gap, &message[start..end]);
-                place = end;
-            }
-        }
-    }
-    next
-}
-
-fn put_target(buf: &mut [u8], at: usize, t: Target) -> usize
-    ensures { λ r. ⌜ Wrote (now (buf .entry)) at (trail (text "move" ∷ targetWords t)) (now (buf .exit)) r ⌝ }
-{
-    match t {
-        Target::Abs(p) => put_numbered(buf, at, b" move abs ", p.number()),
-        Target::Rel(p) => put_numbered(buf, at, b" move rel ", p.number()),
-        Target::Min => put_text(buf, at, b" move min"),
-        Target::Max => put_text(buf, at, b" move max"),
-        Target::Stored(n) => put_numbered(buf, at, b" move stored ", n),
-    }
-}
-
-// Each word of a command behind a space.
-fn put_command(buf: &mut [u8], at: usize, c: Command, message: &[u8]) -> usize
-    ensures { λ r. ⌜ Wrote (now (buf .entry)) at (trail (commandWords c (cut (now (message .entry))))) (now (buf .exit)) r ⌝ }
-{
-    match c {
-        Command::Nothing => at,
-        Command::Home => put_text(buf, at, b" home"),
-        Command::Stop => put_text(buf, at, b" stop"),
-        Command::Estop => put_text(buf, at, b" estop"),
-        Command::MoveTo(t) => put_target(buf, at, t),
-        Command::MoveVel(v) => put_numbered(buf, at, b" move vel ", v.number()),
-        Command::Get(s) => put_setting(buf, at, b" get ", s),
-        Command::Set(s, n) => {
-            let next = put_setting(buf, at, b" set ", s);
-            put_numbered(buf, next, b" ", n)
-        }
-        Command::Storepos(n) => put_numbered(buf, at, b" tools storepos ", n),
-        Command::StoreposAt(n, p) => {
-            let next = put_numbered(buf, at, b" tools storepos ", n);
-            put_numbered(buf, next, b" ", p.number())
-        }
-        Command::StoreposCurrent(n) => {
-            let next = put_numbered(buf, at, b" tools storepos ", n);
-            put_text(buf, next, b" current")
-        }
-        Command::Warnings => put_text(buf, at, b" warnings"),
-        Command::WarningsClear => put_text(buf, at, b" warnings clear"),
-        Command::ParkingState => put_text(buf, at, b" tools parking state"),
-        Command::Park => put_text(buf, at, b" tools parking park"),
-        Command::Unpark => put_text(buf, at, b" tools parking unpark"),
-        Command::Echo => {
-            let next = put_text(buf, at, b" tools echo");
-            put_message(buf, next, message)
-        }
-    }
 }
 
 // Up to the end of the content.

@@ -2,7 +2,7 @@
 -- Assumes nothing.
 use Rattle.laws.specs.Text.{text}
 use Rattle.wire.proofs.Wrote.{_▸_}
-use Rattle.writer.proofs.Texts.{end-sum, end-bare}
+use Rattle.writer.proofs.Ends.{end-sum, end-bare}
 use borrow.Author.Needs.{needs}
 use Rattle.writer.proofs.put_end.Statement.{statement}
 use Rattle.writer.proofs.put_end.Tie as tie

@@ -1,4 +1,4 @@
--- `writer::put_message` meets its contract. Invariant: what is written, with the words that are left, is the whole.
+-- `rows::put_message` meets its contract. Invariant: what is written, with the words that are left, is the whole.
 -- Assumes nothing.
 use mathlib.Core.Path.{_≡_}
 use Prim.Native.Nat.{_-_, _≤_}
@@ -9,12 +9,12 @@ use Rattle.words.specs.Cutting.{cut}
 use Rattle.words.proofs.Cut.{Part, found-word, found-end}
 use Rattle.wire.proofs.Wrote.{_▸_, wrote-length}
 use Rattle.data.proofs.Writing.{Writing, writing-first, writing-more, writing-end}
-use Rattle.writer.proofs.Texts.{no-words}
+use Rattle.rows.proofs.Texts.{no-words}
 use borrow.Author.Needs.{needs}
-use Rattle.writer.proofs.put_message.Statement.{statement}
-use Rattle.writer.proofs.put_message.Tie as tie
-use Rattle.writer.proofs.put_message.Reads as reads
-use Rattle.writer.proofs.put_message.Lts as lts
+use Rattle.rows.proofs.put_message.Statement.{statement}
+use Rattle.rows.proofs.put_message.Tie as tie
+use Rattle.rows.proofs.put_message.Reads as reads
+use Rattle.rows.proofs.put_message.Lts as lts
 use Rattle.wire.proofs.put_byte.Reads as put-byte-reads
 use Rattle.wire.proofs.put_text.Reads as put-text-reads
 use Rattle.words.proofs.next_word.Reads as next-word-reads

@@ -1,19 +1,15 @@
--- The texts that the inner writers write: a setting's name from the table, and a line's end.
+-- A setting's name from the code's table, and the end of a message.
 -- Assumes nothing.
 use mathlib.Core.Path.{_≡_, refl, ap, _∙_}
-use mathlib.Core.Bool.{Bool, true, false}
-use mathlib.Core.List.{List, [], _∷_, _++_}
+use mathlib.Core.List.{List, []}
 use Prim.Native.Nat.{ℕ, _≤_}
 use lib.ListN.{length, drop, drop-of-length-le}
 use Rattle.laws.specs.Text.{text}
-use Rattle.number.specs.Checksum.{checksum}
-use Rattle.number.specs.Decimal.{hexPair}
 use Rattle.words.specs.Cutting.{isSpace, noSpace, grow, cut, headWord}
 use Rattle.words.proofs.Cut.{cut-none}
 use Rattle.command.specs.Settings.{nameOf}
 use Rattle.phrase.specs.Types.{AxisSetting, Pos, LimitMin, LimitMax, MaxSpeed, Accel, DriverCurrentMax, DriverCurrentRun, DriverCurrentHold, DriverDir, EncoderIndexCount, DeviceSetting, CommAddress, CommAlert, CommChecksum, SystemAccess, DeviceId, SystemAxisCount, Setting, OfAxis, OfDevice}
-use Rattle.writer.specs.Places.{placeOf}
-use Rattle.writer.specs.Writing.{lineEnd}
+use Rattle.rows.specs.Places.{placeOf}
 
 -- the table of names in the code
 abbrev pub table : List ℕ
@@ -40,14 +36,6 @@ named (OfDevice SystemAxisCount) = refl
 
 pub name-is : (s : Setting) (k : ℕ) (w : List ℕ) → k ≡ placeOf s → w ≡ headWord (drop k (cut table)) → w ≡ nameOf s
 name-is s k w e q = rw (q, e) (named s)
-
-pub end-sum : (sum : Bool) (s : List ℕ) → sum ≡ true → lineEnd sum s ≡ text ":" ++ hexPair (checksum s) ++ text "\n"
-unfolding lineEnd
-end-sum sum s h = rw h
-
-pub end-bare : (sum : Bool) (s : List ℕ) → sum ≡ false → lineEnd sum s ≡ text "\n"
-unfolding lineEnd
-end-bare sum s h = rw h
 
 -- at the end of a message no word is left
 pub no-words : (s : List ℕ) (at : ℕ) → length s ≤ at → cut (drop at s) ≡ []

@@ -1,11 +1,11 @@
--- `writer::put_numbered` meets its contract: two writes, one behind the other.
+-- `rows::put_numbered` meets its contract: two writes, one behind the other.
 -- Assumes nothing.
 use Rattle.wire.proofs.Wrote.{_▸_}
 use borrow.Author.Needs.{needs}
-use Rattle.writer.proofs.put_numbered.Statement.{statement}
-use Rattle.writer.proofs.put_numbered.Tie as tie
-use Rattle.writer.proofs.put_numbered.Reads as reads
-use Rattle.writer.proofs.put_numbered.Lts as lts
+use Rattle.rows.proofs.put_numbered.Statement.{statement}
+use Rattle.rows.proofs.put_numbered.Tie as tie
+use Rattle.rows.proofs.put_numbered.Reads as reads
+use Rattle.rows.proofs.put_numbered.Lts as lts
 use Rattle.wire.proofs.put_signed.Reads as put-signed-reads
 use Rattle.wire.proofs.put_text.Reads as put-text-reads
 

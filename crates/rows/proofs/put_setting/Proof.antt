@@ -1,16 +1,16 @@
--- `writer::put_setting` meets its contract: the name stands in the table at the setting's place.
+-- `rows::put_setting` meets its contract: the name stands in the table at the setting's place.
 -- Assumes nothing.
 use Rattle.laws.specs.Text.{text}
 use Rattle.wire.proofs.Wrote.{_▸_}
-use Rattle.writer.proofs.Texts.{name-is}
+use Rattle.rows.proofs.Texts.{name-is}
 use borrow.Author.Needs.{needs}
-use Rattle.writer.proofs.put_setting.Statement.{statement}
-use Rattle.writer.proofs.put_setting.Tie as tie
-use Rattle.writer.proofs.put_setting.Reads as reads
-use Rattle.writer.proofs.put_setting.Lts as lts
+use Rattle.rows.proofs.put_setting.Statement.{statement}
+use Rattle.rows.proofs.put_setting.Tie as tie
+use Rattle.rows.proofs.put_setting.Reads as reads
+use Rattle.rows.proofs.put_setting.Lts as lts
 use Rattle.wire.proofs.put_text.Reads as put-text-reads
 use Rattle.words.proofs.nth_word.Reads as nth-word-reads
-use Rattle.writer.proofs.place_of.Reads as place-of-reads
+use Rattle.rows.proofs.place_of.Reads as place-of-reads
 
 put-text-requires : tie.Need-put-text-requires
 put-text-requires c κs = search needs
