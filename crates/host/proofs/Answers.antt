@@ -1,6 +1,6 @@
 -- The two answers of `read_reply`, from what its parts found.
 -- Assumes nothing.
-use mathlib.Core.Path.{_≡_, refl, sym, ap, _∙_}
+use mathlib.Core.Path.{_≡_, sym, _∙_}
 use mathlib.Core.Bool.{Bool, true, false, _&&_}
 use mathlib.Core.List.{List}
 use Prim.Native.Nat.{ℕ, _+_, _-_, _≤_, _<_}
@@ -9,7 +9,6 @@ use lib.Dec.{eqb}
 use lib.ListN.{length}
 use borrow.Author.Tests.{le-leb, lt-leb}
 use Rattle.host.specs.Reading.{dataLength, headIn, rightHead, framed, heard, readReply}
-use Rattle.host.specs.declared.Heard.{Heard}
 use Rattle.host.specs.declared.Head.{Head}
 use Rattle.host.specs.declared.ReplyRead.the-variants.{Reply, NotReply}
 

@@ -1,18 +1,17 @@
 -- A line is read as a reply exactly where Spelling writes it for that reply, and it is written for one reply at most.
 -- Assumes nothing.
-use mathlib.Core.Path.{_≡_, refl, sym, ap, subst, _∙_}
-use mathlib.Core.Logic.{_↔_, ⊎-elim}
+use mathlib.Core.Path.{_≡_, refl, sym, ap, _∙_}
+use mathlib.Core.Logic.{_↔_}
 use mathlib.Core.Bool.{Bool, true, false, not, _&&_}
 use mathlib.Core.List.{List, [], _∷_, _++_, append-assoc}
 use Prim.Native.Nat.{ℕ, zero, suc, _+_, _*_, _≤_, _<_}
 use native.Mathlib.Omega.{arith}
-use lib.Dec.{eqb, ltb, leb}
+use lib.Dec.{ltb, leb}
 use lib.ListN.{length, getD, take, drop, take-append-drop, length-take, length-drop}
 use lib.Seq.{take-at, drop-at, length-take-le, take-add, drop-drop}
-use borrow.Author.Tests.{lt-ltb, eq-eqb, ltb-true, le-ltb, le-leb, leb-true, ne-eqb, not-true, eqb-false}
+use borrow.Author.Tests.{lt-ltb, eq-eqb, ltb-true, le-leb, leb-true, ne-eqb, not-true}
 use Rattle.laws.specs.Lists.{span}
 use Rattle.laws.specs.Text.{text, same, spaced}
-use Rattle.laws.proofs.Order.{lt-or-le}
 use Rattle.laws.proofs.Bools.{and-left, and-right, and-both, clash}
 use Rattle.laws.proofs.Same.{same-true}
 use Rattle.laws.proofs.Span.{span-le}
@@ -20,16 +19,15 @@ use Rattle.number.specs.Reading.{valueOf}
 use Rattle.number.specs.Spelling.{Digit}
 use Rattle.number.proofs.Value.{digit-value, digit-below, digit-of}
 use Rattle.words.specs.Find.{index}
-use Rattle.words.specs.Spelling.{WordByte}
 use Rattle.host.specs.Spelling.{Address, Axis, Data, begun, End}
 use Rattle.host.specs.Spelling as spelling
 use Rattle.host.specs.Reading.{field, stands, marked, twoOf, verdicts, statuses, warnings, headIn, rightHead, dataByte, dataLength, rightEnd, framed, heard, readReply}
 use Rattle.host.specs.declared.Heard.{Heard}
 use Rattle.host.specs.declared.Head.{Head}
-use Rattle.host.specs.declared.ReplyRead.the-variants.{Reply, NotReply}
+use Rattle.host.specs.declared.ReplyRead.the-variants.{Reply}
 use Rattle.host.proofs.Parts.{both-digits, two-yes, two-no}
 use Rattle.host.proofs.Answers.{whole}
-use Rattle.host.proofs.Spelled.{Two, two, Four, four, Said, Known, verdict-read, verdict-of, verdict-two, status-read, status-of, status-four, warning-read, warning-of, warning-two, bytes-span, data-bytes, data-of, end-span, end-read, end-of}
+use Rattle.host.proofs.Spelled.{Two, two, Four, four, verdict-read, verdict-of, verdict-two, status-read, status-of, status-four, warning-read, warning-of, warning-two, bytes-span, data-bytes, data-of, end-span, end-read, end-of}
 
 -- ---- what Spelling writes is read
 

@@ -1,11 +1,10 @@
 -- Every command that the host's writer accepts is written as a spelling of that command, with a checksum and without.
 -- So, by demand 3, the line reader reads it as that same command. Assumes nothing.
-use mathlib.Core.Path.{_≡_, refl, sym, ap, subst, _∙_}
-use mathlib.Core.Logic.{⊎-elim}
+use mathlib.Core.Path.{_≡_, refl, sym, subst}
 use mathlib.Core.Bool.{Bool, true, false, cond, _||_}
-use mathlib.Core.List.{List, [], _∷_, _++_, append-assoc}
+use mathlib.Core.List.{List, [], _++_, append-assoc}
 use mathlib.Core.Option.{some}
-use Prim.Native.Nat.{ℕ, _+_, _%_, _≤_, _<_}
+use Prim.Native.Nat.{ℕ, _≤_, _<_}
 use native.Mathlib.Nat.{mod-eq-of-lt}
 use native.Mathlib.Omega.{arith}
 use lib.Dec.{eqb, ltb}
@@ -15,9 +14,9 @@ use borrow.Author.Tests.{ltb-false, eq-eqb, eqb-true}
 use Rattle.laws.specs.Text.{text, spaced}
 use Rattle.laws.specs.Refusals.{firstOf}
 use Rattle.laws.proofs.Bools.{clash}
-use Rattle.laws.proofs.Each.{Each, more}
+use Rattle.laws.proofs.Each.{more}
 use Rattle.number.specs.Checksum.{checksum}
-use Rattle.number.specs.Decimal.{lastDigit, digits, twoDigits, hexPair}
+use Rattle.number.specs.Decimal.{lastDigit, digits, hexPair}
 use Rattle.number.specs.Spelling.{Digit}
 use Rattle.number.proofs.Decimal.{digits-one, address-spelled, pair-spelled}
 use Rattle.phrase.specs.Types.{Command}

@@ -1,12 +1,12 @@
 -- The words of a written line are words, and joined by single spaces they are a content.
 -- Assumes nothing.
-use mathlib.Core.Path.{_≡_, refl, sym, _∙_}
+use mathlib.Core.Path.{_≡_, refl}
 use mathlib.Core.Logic.{⊎-elim}
 use mathlib.Core.Bool.{Bool, true, false, not, _&&_}
 use mathlib.Core.List.{List, [], _∷_, _++_}
-use Prim.Native.Nat.{ℕ, suc, _+_, _≤_, _<_}
+use Prim.Native.Nat.{ℕ, suc, _≤_}
 use native.Mathlib.Omega.{arith}
-use lib.Dec.{eqb, leb, lit<}
+use lib.Dec.{eqb, leb}
 use lib.IntN.{ℤ, pos, negsuc}
 use mir.Syntax.{w32}
 use mir.Val.{SFits}
@@ -23,7 +23,7 @@ use Rattle.words.specs.Cutting.{cut}
 use Rattle.words.specs.Spelling.{WordByte, Spaces, Word, Content, blank, last, next}
 use Rattle.words.proofs.Content.{Plain, done, space, byte, cut-content}
 use Rattle.command.specs.Settings.{nameOf}
-use Rattle.phrase.specs.Types.{AxisSetting, Pos, LimitMin, LimitMax, MaxSpeed, Accel, DriverCurrentMax, DriverCurrentRun, DriverCurrentHold, DriverDir, EncoderIndexCount, DeviceSetting, CommAddress, CommAlert, CommChecksum, SystemAccess, DeviceId, SystemAxisCount, Setting, OfAxis, OfDevice}
+use Rattle.phrase.specs.Types.{Pos, LimitMin, LimitMax, MaxSpeed, Accel, DriverCurrentMax, DriverCurrentRun, DriverCurrentHold, DriverDir, EncoderIndexCount, CommAddress, CommAlert, CommChecksum, SystemAccess, DeviceId, SystemAxisCount, Setting, OfAxis, OfDevice}
 use Rattle.host.specs.Reading.{dataByte}
 use Rattle.host.proofs.Spelled.{data-is-word}
 

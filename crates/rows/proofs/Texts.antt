@@ -8,7 +8,7 @@ use Rattle.laws.specs.Text.{text}
 use Rattle.words.specs.Cutting.{isSpace, noSpace, grow, cut, headWord}
 use Rattle.words.proofs.Cut.{cut-none}
 use Rattle.command.specs.Settings.{nameOf}
-use Rattle.phrase.specs.Types.{AxisSetting, Pos, LimitMin, LimitMax, MaxSpeed, Accel, DriverCurrentMax, DriverCurrentRun, DriverCurrentHold, DriverDir, EncoderIndexCount, DeviceSetting, CommAddress, CommAlert, CommChecksum, SystemAccess, DeviceId, SystemAxisCount, Setting, OfAxis, OfDevice}
+use Rattle.phrase.specs.Types.{Pos, LimitMin, LimitMax, MaxSpeed, Accel, DriverCurrentMax, DriverCurrentRun, DriverCurrentHold, DriverDir, EncoderIndexCount, CommAddress, CommAlert, CommChecksum, SystemAccess, DeviceId, SystemAxisCount, Setting, OfAxis, OfDevice}
 use Rattle.rows.specs.Places.{placeOf}
 
 -- the table of names in the code

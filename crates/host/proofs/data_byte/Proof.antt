@@ -4,8 +4,6 @@ use mathlib.Core.Path.{refl}
 use Rattle.host.specs.Reading.{dataByte}
 use Rattle.host.proofs.data_byte.Statement.{statement}
 use Rattle.host.proofs.data_byte.Tie as tie
-use Rattle.host.proofs.data_byte.Reads as reads
-use Rattle.host.proofs.data_byte.Lts as lts
 
 returns : tie.Need-returns
 unfolding dataByte

@@ -10,9 +10,6 @@ use Rattle.host.specs.Reading.{dataByte, dataLength}
 use borrow.Author.Needs.{needs}
 use Rattle.host.proofs.data_end.Statement.{statement}
 use Rattle.host.proofs.data_end.Tie as tie
-use Rattle.host.proofs.data_end.Reads as reads
-use Rattle.host.proofs.data_end.Lts as lts
-use Rattle.host.proofs.data_byte.Reads as data-byte-reads
 
 abbrev Inv-loop : tie.InvT-loop
 Inv-loop line i₀ i = i + span dataByte (drop i line) ≡ 17 + span dataByte (drop 17 line)

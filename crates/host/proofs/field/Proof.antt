@@ -1,16 +1,11 @@
 -- `host::field` meets its contract: the front of what is left.
 -- Assumes nothing.
-use mathlib.Core.Path.{ap, _∙_}
 use native.Mathlib.Omega.{arith}
-use lib.ListN.{take, length-take}
+use lib.ListN.{length-take}
 use Rattle.host.proofs.Parts.{front-is}
 use borrow.Author.Needs.{needs}
 use Rattle.host.proofs.field.Statement.{statement}
 use Rattle.host.proofs.field.Tie as tie
-use Rattle.host.proofs.field.Reads as reads
-use Rattle.host.proofs.field.Lts as lts
-use Rattle.data.proofs.lesser.Reads as lesser-reads
-use Rattle.host.proofs.rest.Reads as rest-reads
 
 rest-requires : tie.Need-rest-requires
 rest-requires c κs = search needs

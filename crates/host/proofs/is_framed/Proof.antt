@@ -5,13 +5,6 @@ use Rattle.host.specs.Reading.{framed}
 use borrow.Author.Needs.{needs}
 use Rattle.host.proofs.is_framed.Statement.{statement}
 use Rattle.host.proofs.is_framed.Tie as tie
-use Rattle.host.proofs.is_framed.Reads as reads
-use Rattle.host.proofs.is_framed.Lts as lts
-use Rattle.host.proofs.field.Reads as field-reads
-use Rattle.host.proofs.is_marked.Reads as is-marked-reads
-use Rattle.host.proofs.rest.Reads as rest-reads
-use Rattle.host.proofs.right_end.Reads as right-end-reads
-use Rattle.host.proofs.stands_at.Reads as stands-at-reads
 
 is-marked-requires : tie.Need-is-marked-requires
 is-marked-requires c κs = search needs

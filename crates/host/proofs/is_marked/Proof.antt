@@ -5,9 +5,6 @@ use Rattle.host.specs.Reading.{marked}
 use borrow.Author.Needs.{needs}
 use Rattle.host.proofs.is_marked.Statement.{statement}
 use Rattle.host.proofs.is_marked.Tie as tie
-use Rattle.host.proofs.is_marked.Reads as reads
-use Rattle.host.proofs.is_marked.Lts as lts
-use Rattle.host.proofs.stands_at.Reads as stands-at-reads
 
 slice-aggregate-stands-at : tie.Need-slice-aggregate-stands-at
 slice-aggregate-stands-at c = search needs

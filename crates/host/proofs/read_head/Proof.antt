@@ -8,13 +8,6 @@ use Rattle.host.proofs.Heads.{digit-is, word-is, head-is}
 use borrow.Author.Needs.{needs}
 use Rattle.host.proofs.read_head.Statement.{statement}
 use Rattle.host.proofs.read_head.Tie as tie
-use Rattle.host.proofs.read_head.Reads as reads
-use Rattle.host.proofs.read_head.Lts as lts
-use Rattle.host.proofs.byte_at.Reads as byte-at-reads
-use Rattle.host.proofs.field.Reads as field-reads
-use Rattle.host.proofs.two_of.Reads as two-of-reads
-use Rattle.number.proofs.digit_value.Reads as digit-value-reads
-use Rattle.words.proofs.find_word.Reads as find-word-reads
 
 byte-at-requires : tie.Need-byte-at-requires
 byte-at-requires c κs = search needs

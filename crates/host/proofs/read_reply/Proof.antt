@@ -4,12 +4,6 @@ use Rattle.host.proofs.Answers.{too-long, is-reply, no-reply}
 use borrow.Author.Needs.{needs}
 use Rattle.host.proofs.read_reply.Statement.{statement}
 use Rattle.host.proofs.read_reply.Tie as tie
-use Rattle.host.proofs.read_reply.Reads as reads
-use Rattle.host.proofs.read_reply.Lts as lts
-use Rattle.host.proofs.data_end.Reads as data-end-reads
-use Rattle.host.proofs.is_framed.Reads as is-framed-reads
-use Rattle.host.proofs.read_head.Reads as read-head-reads
-use Rattle.host.proofs.right_head.Reads as right-head-reads
 
 returns : tie.Need-returns
 returns c = too-long _ (c .if1 .taken)

@@ -4,9 +4,6 @@ use Rattle.host.proofs.Parts.{rest-is}
 use borrow.Author.Needs.{needs}
 use Rattle.host.proofs.rest.Statement.{statement}
 use Rattle.host.proofs.rest.Tie as tie
-use Rattle.host.proofs.rest.Reads as reads
-use Rattle.host.proofs.rest.Lts as lts
-use Rattle.data.proofs.lesser.Reads as lesser-reads
 
 lesser-requires : tie.Need-lesser-requires
 lesser-requires c κs = search needs

@@ -5,14 +5,6 @@ use Rattle.host.specs.Reading.{rightEnd}
 use borrow.Author.Needs.{needs}
 use Rattle.host.proofs.right_end.Statement.{statement}
 use Rattle.host.proofs.right_end.Tie as tie
-use Rattle.host.proofs.right_end.Reads as reads
-use Rattle.host.proofs.right_end.Lts as lts
-use Rattle.host.proofs.byte_at.Reads as byte-at-reads
-use Rattle.host.proofs.rest.Reads as rest-reads
-use Rattle.host.proofs.says_sum.Reads as says-sum-reads
-use Rattle.host.proofs.stands_at.Reads as stands-at-reads
-use Rattle.number.proofs.read_pair.Reads as read-pair-reads
-use Rattle.words.proofs.same_bytes.Reads as same-bytes-reads
 
 slice-aggregate-same-bytes : tie.Need-slice-aggregate-same-bytes
 slice-aggregate-same-bytes c = search needs

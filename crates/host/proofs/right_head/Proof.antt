@@ -4,8 +4,6 @@ use mathlib.Core.Path.{refl}
 use Rattle.host.specs.Reading.{rightHead}
 use Rattle.host.proofs.right_head.Statement.{statement}
 use Rattle.host.proofs.right_head.Tie as tie
-use Rattle.host.proofs.right_head.Reads as reads
-use Rattle.host.proofs.right_head.Lts as lts
 
 returns : tie.Need-returns
 unfolding rightHead

@@ -4,9 +4,6 @@ use Rattle.host.proofs.Parts.{sum-said}
 use borrow.Author.Needs.{needs}
 use Rattle.host.proofs.says_sum.Statement.{statement}
 use Rattle.host.proofs.says_sum.Tie as tie
-use Rattle.host.proofs.says_sum.Reads as reads
-use Rattle.host.proofs.says_sum.Lts as lts
-use Rattle.number.proofs.checksum.Reads as checksum-reads
 
 enum-known-p : tie.Need-enum-known-p
 enum-known-p c = search needs

@@ -4,10 +4,6 @@ use Rattle.host.specs.Reading.{field, stands}
 use borrow.Author.Needs.{needs}
 use Rattle.host.proofs.stands_at.Statement.{statement}
 use Rattle.host.proofs.stands_at.Tie as tie
-use Rattle.host.proofs.stands_at.Reads as reads
-use Rattle.host.proofs.stands_at.Lts as lts
-use Rattle.host.proofs.field.Reads as field-reads
-use Rattle.words.proofs.same_bytes.Reads as same-bytes-reads
 
 field-requires : tie.Need-field-requires
 field-requires c κs = search needs

@@ -4,8 +4,6 @@ use native.Mathlib.Omega.{arith}
 use Rattle.host.proofs.Parts.{both-digits, two-yes, two-no}
 use Rattle.host.proofs.two_of.Statement.{statement}
 use Rattle.host.proofs.two_of.Tie as tie
-use Rattle.host.proofs.two_of.Reads as reads
-use Rattle.host.proofs.two_of.Lts as lts
 
 mul-result : tie.Need-mul-result
 mul-result c = omega (arith, both-digits (c .before .args .tens) (c .before .args .ones) (c .if1 .taken))

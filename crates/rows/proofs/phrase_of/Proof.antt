@@ -4,8 +4,6 @@ use mathlib.Core.Path.{refl}
 use borrow.Author.Needs.{needs}
 use Rattle.rows.proofs.phrase_of.Statement.{statement}
 use Rattle.rows.proofs.phrase_of.Tie as tie
-use Rattle.rows.proofs.phrase_of.Reads as reads
-use Rattle.rows.proofs.phrase_of.Lts as lts
 
 enum-told : tie.Need-enum-told
 enum-told c = search needs

@@ -4,10 +4,6 @@ use Rattle.rows.proofs.Phrases.{phrase-words}
 use borrow.Author.Needs.{needs}
 use Rattle.rows.proofs.put_command.Statement.{statement}
 use Rattle.rows.proofs.put_command.Tie as tie
-use Rattle.rows.proofs.put_command.Reads as reads
-use Rattle.rows.proofs.put_command.Lts as lts
-use Rattle.rows.proofs.phrase_of.Reads as phrase-of-reads
-use Rattle.rows.proofs.put_phrase.Reads as put-phrase-reads
 
 phrase-of-requires : tie.Need-phrase-of-requires
 phrase-of-requires c κs = search needs

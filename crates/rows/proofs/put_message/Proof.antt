@@ -1,6 +1,5 @@
 -- `rows::put_message` meets its contract. Invariant: what is written, with the words that are left, is the whole.
 -- Assumes nothing.
-use mathlib.Core.Path.{_≡_}
 use Prim.Native.Nat.{_-_, _≤_}
 use native.Mathlib.Omega.{arith}
 use lib.ListN.{length, drop}
@@ -13,11 +12,6 @@ use Rattle.rows.proofs.Texts.{no-words}
 use borrow.Author.Needs.{needs}
 use Rattle.rows.proofs.put_message.Statement.{statement}
 use Rattle.rows.proofs.put_message.Tie as tie
-use Rattle.rows.proofs.put_message.Reads as reads
-use Rattle.rows.proofs.put_message.Lts as lts
-use Rattle.wire.proofs.put_byte.Reads as put-byte-reads
-use Rattle.wire.proofs.put_text.Reads as put-text-reads
-use Rattle.words.proofs.next_word.Reads as next-word-reads
 
 abbrev Inv-loop : tie.InvT-loop
 Inv-loop buf₀ at message next₀ place₀ buf next place = (place ≤ length message) × Writing buf₀ at (trail (cut message)) (cut (drop place message)) buf next

@@ -4,10 +4,6 @@ use Rattle.wire.proofs.Wrote.{_▸_}
 use borrow.Author.Needs.{needs}
 use Rattle.rows.proofs.put_numbered.Statement.{statement}
 use Rattle.rows.proofs.put_numbered.Tie as tie
-use Rattle.rows.proofs.put_numbered.Reads as reads
-use Rattle.rows.proofs.put_numbered.Lts as lts
-use Rattle.wire.proofs.put_signed.Reads as put-signed-reads
-use Rattle.wire.proofs.put_text.Reads as put-text-reads
 
 put-text-requires : tie.Need-put-text-requires
 put-text-requires c κs = search needs

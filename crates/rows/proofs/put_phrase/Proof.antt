@@ -7,15 +7,6 @@ use Rattle.wire.proofs.Wrote.{_▸_}
 use borrow.Author.Needs.{needs}
 use Rattle.rows.proofs.put_phrase.Statement.{statement}
 use Rattle.rows.proofs.put_phrase.Tie as tie
-use Rattle.rows.proofs.put_phrase.Reads as reads
-use Rattle.rows.proofs.put_phrase.Lts as lts
-use Rattle.rows.proofs.put_numbered.Reads as put-numbered-reads
-use Rattle.rows.proofs.put_plain.Reads as put-plain-reads
-use Rattle.rows.proofs.put_setting.Reads as put-setting-reads
-use Rattle.rows.proofs.put_target.Reads as put-target-reads
-use Rattle.rows.proofs.put_tool.Reads as put-tool-reads
-use Rattle.units.proofs.Speed.number.Reads as number-reads
-use Rattle.wire.proofs.put_text.Reads as put-text-reads
 
 enum-known-p : tie.Need-enum-known-p
 enum-known-p c = search needs

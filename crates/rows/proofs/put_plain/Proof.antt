@@ -6,9 +6,6 @@ use Rattle.wire.proofs.Wrote.{wrote-none}
 use borrow.Author.Needs.{needs}
 use Rattle.rows.proofs.put_plain.Statement.{statement}
 use Rattle.rows.proofs.put_plain.Tie as tie
-use Rattle.rows.proofs.put_plain.Reads as reads
-use Rattle.rows.proofs.put_plain.Lts as lts
-use Rattle.wire.proofs.put_text.Reads as put-text-reads
 
 enum-told : tie.Need-enum-told
 enum-told c = search needs

@@ -6,11 +6,6 @@ use Rattle.rows.proofs.Texts.{name-is}
 use borrow.Author.Needs.{needs}
 use Rattle.rows.proofs.put_setting.Statement.{statement}
 use Rattle.rows.proofs.put_setting.Tie as tie
-use Rattle.rows.proofs.put_setting.Reads as reads
-use Rattle.rows.proofs.put_setting.Lts as lts
-use Rattle.wire.proofs.put_text.Reads as put-text-reads
-use Rattle.words.proofs.nth_word.Reads as nth-word-reads
-use Rattle.rows.proofs.place_of.Reads as place-of-reads
 
 put-text-requires : tie.Need-put-text-requires
 put-text-requires c κs = search needs

@@ -6,11 +6,6 @@ use Rattle.laws.proofs.Spaced.{trail}
 use borrow.Author.Needs.{needs}
 use Rattle.rows.proofs.put_target.Statement.{statement}
 use Rattle.rows.proofs.put_target.Tie as tie
-use Rattle.rows.proofs.put_target.Reads as reads
-use Rattle.rows.proofs.put_target.Lts as lts
-use Rattle.units.proofs.Position.number.Reads as number-reads
-use Rattle.wire.proofs.put_text.Reads as put-text-reads
-use Rattle.rows.proofs.put_numbered.Reads as put-numbered-reads
 
 enum-known-t : tie.Need-enum-known-t
 enum-known-t c = search needs

@@ -7,12 +7,6 @@ use Rattle.wire.proofs.Wrote.{_▸_}
 use borrow.Author.Needs.{needs}
 use Rattle.rows.proofs.put_tool.Statement.{statement}
 use Rattle.rows.proofs.put_tool.Tie as tie
-use Rattle.rows.proofs.put_tool.Reads as reads
-use Rattle.rows.proofs.put_tool.Lts as lts
-use Rattle.rows.proofs.put_message.Reads as put-message-reads
-use Rattle.rows.proofs.put_numbered.Reads as put-numbered-reads
-use Rattle.units.proofs.Position.number.Reads as number-reads
-use Rattle.wire.proofs.put_text.Reads as put-text-reads
 
 enum-known-t : tie.Need-enum-known-t
 enum-known-t c = search needs

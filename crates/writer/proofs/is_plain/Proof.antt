@@ -11,9 +11,6 @@ use Rattle.host.specs.Reading.{dataByte}
 use borrow.Author.Needs.{needs}
 use Rattle.writer.proofs.is_plain.Statement.{statement}
 use Rattle.writer.proofs.is_plain.Tie as tie
-use Rattle.writer.proofs.is_plain.Reads as reads
-use Rattle.writer.proofs.is_plain.Lts as lts
-use Rattle.host.proofs.data_byte.Reads as data-byte-reads
 
 abbrev Inv-loop : tie.InvT-loop
 Inv-loop s plain₀ i₀ plain i = (plain && all dataByte (drop i s)) ≡ all dataByte s

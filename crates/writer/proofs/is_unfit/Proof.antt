@@ -6,10 +6,6 @@ use Rattle.writer.proofs.Fits.{fit}
 use borrow.Author.Needs.{needs}
 use Rattle.writer.proofs.is_unfit.Statement.{statement}
 use Rattle.writer.proofs.is_unfit.Tie as tie
-use Rattle.writer.proofs.is_unfit.Reads as reads
-use Rattle.writer.proofs.is_unfit.Lts as lts
-use Rattle.command.proofs.Setting.read_only.Reads as read-only-reads
-use Rattle.writer.proofs.is_plain.Reads as is-plain-reads
 
 enum-known-c : tie.Need-enum-known-c
 enum-known-c c = search needs

@@ -4,9 +4,6 @@ use Rattle.writer.specs.Writing.{unspellable}
 use borrow.Author.Needs.{needs}
 use Rattle.writer.proofs.is_unspellable.Statement.{statement}
 use Rattle.writer.proofs.is_unspellable.Tie as tie
-use Rattle.writer.proofs.is_unspellable.Reads as reads
-use Rattle.writer.proofs.is_unspellable.Lts as lts
-use Rattle.writer.proofs.is_unfit.Reads as is-unfit-reads
 
 is-unfit-requires : tie.Need-is-unfit-requires
 is-unfit-requires c κs = search needs

@@ -6,12 +6,6 @@ use Rattle.writer.proofs.Lines.{content-is}
 use borrow.Author.Needs.{needs}
 use Rattle.writer.proofs.put_content.Statement.{statement}
 use Rattle.writer.proofs.put_content.Tie as tie
-use Rattle.writer.proofs.put_content.Reads as reads
-use Rattle.writer.proofs.put_content.Lts as lts
-use Rattle.wire.proofs.put_byte.Reads as put-byte-reads
-use Rattle.wire.proofs.put_number.Reads as put-number-reads
-use Rattle.wire.proofs.put_two.Reads as put-two-reads
-use Rattle.rows.proofs.put_command.Reads as put-command-reads
 
 put-byte-requires : tie.Need-put-byte-requires
 put-byte-requires c κs = search needs

@@ -6,11 +6,6 @@ use Rattle.writer.proofs.Ends.{end-sum, end-bare}
 use borrow.Author.Needs.{needs}
 use Rattle.writer.proofs.put_end.Statement.{statement}
 use Rattle.writer.proofs.put_end.Tie as tie
-use Rattle.writer.proofs.put_end.Reads as reads
-use Rattle.writer.proofs.put_end.Lts as lts
-use Rattle.reply.proofs.summed.Reads as summed-reads
-use Rattle.wire.proofs.put_byte.Reads as put-byte-reads
-use Rattle.wire.proofs.put_pair.Reads as put-pair-reads
 
 summed-requires : tie.Need-summed-requires
 summed-requires c κs = search needs

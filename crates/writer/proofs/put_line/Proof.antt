@@ -4,10 +4,6 @@ use Rattle.writer.proofs.Lines.{line-done}
 use borrow.Author.Needs.{needs}
 use Rattle.writer.proofs.put_line.Statement.{statement}
 use Rattle.writer.proofs.put_line.Tie as tie
-use Rattle.writer.proofs.put_line.Reads as reads
-use Rattle.writer.proofs.put_line.Lts as lts
-use Rattle.writer.proofs.put_content.Reads as put-content-reads
-use Rattle.writer.proofs.put_end.Reads as put-end-reads
 
 put-content-requires : tie.Need-put-content-requires
 put-content-requires c κs = search needs

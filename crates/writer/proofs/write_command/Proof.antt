@@ -7,11 +7,6 @@ use Rattle.writer.proofs.Lines.{no-room, bad-data, too-long, accepted}
 use borrow.Author.Needs.{needs}
 use Rattle.writer.proofs.write_command.Statement.{statement}
 use Rattle.writer.proofs.write_command.Tie as tie
-use Rattle.writer.proofs.write_command.Reads as reads
-use Rattle.writer.proofs.write_command.Lts as lts
-use Rattle.wire.proofs.put_text.Reads as put-text-reads
-use Rattle.writer.proofs.is_unspellable.Reads as is-unspellable-reads
-use Rattle.writer.proofs.put_line.Reads as put-line-reads
 
 returns : tie.Need-returns
 returns c = no-room _ _ _ _ _ _ (c .if1 .taken)
