@@ -76,7 +76,7 @@ fn put_shown(buf: &mut [u8], at: usize, d: Device, k: u64, x: Shown, s: &[u8], f
         Shown::Value(y) => setting_data(buf, at, d, k, y),
         Shown::StoredAt(n) => view::put_values(buf, at, d, k, Value::Stored(n)),
         Shown::Position => view::put_values(buf, at, d, k, Value::Pos),
-        Shown::Active => data::put_warnings(buf, at, view::warnings(d, k)),
+        Shown::Active => data::put_warnings(buf, at, d.active(k)),
         Shown::Parked => parked_data(buf, at, d),
         Shown::Words => data::put_echo(buf, at, s, from),
     }

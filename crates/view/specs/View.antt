@@ -1,30 +1,27 @@
 -- What a reply shows of a record: status, highest warning, and the values of the axes that a number means.
 -- "A reply describes the record after the command."
-use mathlib.Core.Bool.{Bool, cond, not}
+use mathlib.Core.Bool.{Bool, cond}
 use mathlib.Core.List.{List, map}
 use Prim.Native.Nat.{ℕ}
 use lib.Dec.{leb}
 use Rattle.laws.specs.Lists.{any}
 use Rattle.units.specs.Units.{number, place}
 use Rattle.units.specs.declared.Number.{Number}
-use Rattle.flags.specs.Flags.{mask, active, union}
+use Rattle.flags.specs.Flags.{mask, union}
 use Rattle.settings.specs.Settings.{value}
 use Rattle.axis.specs.declared.Axis.{Axis}
 use Rattle.axis.specs.Record.{moving}
 use Rattle.axis.specs.Travel.{stored}
+use Rattle.axis.specs.Warnings.{active}
 use Rattle.state.specs.declared.Device.{Device}
 use Rattle.state.specs.Record.{axesOf}
 use Rattle.reply.specs.declared.Head.{Head}
 use Rattle.view.specs.declared.Value.{Value}
 use Rattle.view.specs.declared.Value.the-variants.{Of, Stored, Pos}
 
--- "WR is active exactly when the axis has no reference."
-unfoldable pub activeOf : Axis → List Bool
-activeOf a = active (a .warnings) (not (a .reference))
-
 -- "axis 0 takes the union over all axes"
 unfoldable pub warningsOf : Device → ℕ → ℕ
-warningsOf d k = mask (union activeOf (axesOf d k))
+warningsOf d k = mask (union active (axesOf d k))
 
 -- "Its axis is the one sent, or 0 if that exceeds the axis count."
 unfoldable pub shownAxis : Device → ℕ → ℕ

@@ -4,10 +4,9 @@ ghost use mathlib.Core.Path.{_≡_};
 ghost use mathlib.Core.List.{map};
 ghost use Prim.Native.Nat.{_+_, _≤_};
 ghost use lib.ListN.{length, take, drop};
-ghost use Rattle.flags.specs.Flags.{mask, union};
 ghost use Rattle.wire.specs.Wrote.{Wrote};
 ghost use Rattle.data.specs.Data.{values};
-ghost use Rattle.view.specs.View.{activeOf, warningsOf, shownAxis, headOf, valueIn, valuesOf};
+ghost use Rattle.view.specs.View.{shownAxis, headOf, valueIn, valuesOf};
 use axis::Axis;
 use command::AxisSetting;
 use reply::Head;
@@ -21,37 +20,6 @@ pub enum Value {
     Of(AxisSetting),
     Stored(Number),
     Pos,
-}
-
-fn flags_of(a: Axis) -> u32
-    ensures { λ r. ⌜ r ≡ mask (activeOf a) ⌝ }
-{
-    let referred = a.reference;
-    flags::active(a.warnings, !referred)
-}
-
-fn join(axes: [Axis; 4], from: usize, many: usize) -> u32
-    requires { ⌜ from + many ≤ 4 ⌝ }
-    ensures { λ r. ⌜ (length axes ≡ 4) × (r ≡ mask (union activeOf (take many (drop from axes)))) ⌝ }
-{
-    let mut all: u32 = 0;
-    let mut n: usize = 0;
-    while n < many {
-        let i = from + n;
-        let a = axes[i];
-        all = flags::union(all, flags_of(a));
-        n = n + 1;
-    }
-    all
-}
-
-// The warnings of the axes that k means, as a mask.
-pub fn warnings(d: Device, k: u64) -> u32
-    ensures { λ r. ⌜ r ≡ warningsOf d k ⌝ }
-{
-    let axes = d.axes;
-    let p = d.part(k);
-    join(axes, p.from, p.many)
 }
 
 fn shown_axis(d: Device, k: u64) -> u64
@@ -70,7 +38,7 @@ pub fn head(d: Device, k: u64, ok: bool) -> Head
         axis,
         ok,
         busy: d.moving(axis),
-        warnings: warnings(d, axis),
+        warnings: d.active(axis),
     }
 }
 

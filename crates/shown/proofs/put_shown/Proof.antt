@@ -1,6 +1,7 @@
 -- `shown::put_shown` meets its contract: each kind of data by its writer.
 -- Assumes nothing.
 use Rattle.laws.specs.Text.{text}
+use Rattle.view.specs.View.{warningsOf}
 use borrow.Author.Needs.{needs}
 use Rattle.shown.proofs.put_shown.Statement.{statement}
 use Rattle.shown.proofs.put_shown.Tie as tie
@@ -11,7 +12,6 @@ use Rattle.data.proofs.put_warnings.Reads as put-warnings-reads
 use Rattle.shown.proofs.parked_data.Reads as parked-data-reads
 use Rattle.shown.proofs.setting_data.Reads as setting-data-reads
 use Rattle.view.proofs.put_values.Reads as put-values-reads
-use Rattle.view.proofs.warnings.Reads as warnings-reads
 use Rattle.wire.proofs.put_text.Reads as put-text-reads
 
 enum-told : tie.Need-enum-told
@@ -44,8 +44,8 @@ put-values-requires-2 c κs = search needs
 enum-told-3 : tie.Need-enum-told-3
 enum-told-3 c = search needs
 
-warnings-requires : tie.Need-warnings-requires
-warnings-requires c κs = search needs
+active-requires : tie.Need-active-requires
+active-requires c κs = search needs
 
 put-warnings-requires : tie.Need-put-warnings-requires
 put-warnings-requires c κs = search needs
@@ -99,8 +99,9 @@ same-length-5 : tie.Need-same-length-5
 same-length-5 c = search needs
 
 returns-5 : tie.Need-returns-5
+unfolding warningsOf
 returns-5 c =
-    rw (c .before .before .before .before .before .enum-told3 .given .1, ← c .before .before .before .warnings .ensures)
+    rw (c .before .before .before .before .before .enum-told3 .given .1, ← c .before .before .before .active .ensures)
     (c .before .before .put-warnings .ensures)
 
 same-length-6 : tie.Need-same-length-6
@@ -133,7 +134,7 @@ put-shown-spec =
     enum-told-2
     put-values-requires-2
     enum-told-3
-    warnings-requires
+    active-requires
     put-warnings-requires
     enum-told-4
     parked-data-requires

@@ -1,6 +1,6 @@
 -- `view::head` meets its contract: each field is what its function gives.
 -- Assumes nothing.
-use Rattle.view.specs.View.{busy, headOf}
+use Rattle.view.specs.View.{busy, warningsOf, headOf}
 use borrow.Author.Needs.{needs}
 use Rattle.view.proofs.head.Statement.{statement}
 use Rattle.view.proofs.head.Tie as tie
@@ -9,7 +9,6 @@ use Rattle.view.proofs.head.Lts as lts
 use Rattle.state.proofs.Device.moving.Reads as moving-reads
 use Rattle.units.proofs.Number.place.Reads as place-reads
 use Rattle.view.proofs.shown_axis.Reads as shown-axis-reads
-use Rattle.view.proofs.warnings.Reads as warnings-reads
 
 shown-axis-requires : tie.Need-shown-axis-requires
 shown-axis-requires c κs = search needs
@@ -20,16 +19,16 @@ place-requires c κs = search needs
 moving-requires : tie.Need-moving-requires
 moving-requires c κs = search needs
 
-warnings-requires : tie.Need-warnings-requires
-warnings-requires c κs = search needs
+active-requires : tie.Need-active-requires
+active-requires c κs = search needs
 
 returns : tie.Need-returns
-unfolding headOf busy
+unfolding headOf busy warningsOf
 returns c =
     let axis = c .before .before .before .shown-axis .ensures in
-    simp (c .warnings .ensures, c .before .moving .ensures, c .before .before .place .ensures, axis)
+    simp (c .active .ensures, c .before .moving .ensures, c .before .before .place .ensures, axis)
 
 pub head-spec : {M : Type 1} → statement M
 head-spec =
     tie.close
-    (tie.spec shown-axis-requires place-requires moving-requires warnings-requires returns)
+    (tie.spec shown-axis-requires place-requires moving-requires active-requires returns)
