@@ -21,10 +21,11 @@ use Rattle.number.proofs.Value.{digit-value, digit-below, digit-of}
 use Rattle.words.specs.Find.{index}
 use Rattle.host.specs.Spelling.{Address, Axis, Data, begun, End}
 use Rattle.host.specs.Spelling as spelling
-use Rattle.host.specs.Reading.{field, stands, marked, twoOf, verdicts, statuses, warnings, headIn, rightHead, dataByte, dataLength, rightEnd, framed, heard, readReply}
+use Rattle.host.specs.Reading.{field, stands, marked, twoOf, verdicts, statuses, warnings, headIn, rightHead, dataByte, dataLength, rightEnd, framed, heard, readReply, numberOf}
 use Rattle.host.specs.declared.Heard.{Heard}
 use Rattle.host.specs.declared.Head.{Head}
-use Rattle.host.specs.declared.ReplyRead.the-variants.{Reply}
+use Rattle.host.specs.declared.ReplyRead.{ReplyRead}
+use Rattle.host.specs.declared.ReplyRead.the-variants.{Reply, NotReply}
 use Rattle.host.proofs.Parts.{both-digits, two-yes, two-no}
 use Rattle.host.proofs.Answers.{whole}
 use Rattle.host.proofs.Spelled.{Two, two, Four, four, verdict-read, verdict-of, verdict-two, status-read, status-of, status-four, warning-read, warning-of, warning-two, bytes-span, data-bytes, data-of, end-span, end-read, end-of}
@@ -243,3 +244,14 @@ reply-iff l h = (reply-read, reply-of l h)
 
 pub reply-one : {l : List ℕ} {h g : Heard} → spelling.Reply l h → spelling.Reply l g → h ≡ g
 reply-one p q = cc (reply-read p, reply-read q)
+
+-- "Otherwise NOTREPLY": where the rules write a line for no reply, and only there, the number is 30
+pub not-reply : (l : List ℕ) → ((h : Heard) → spelling.Reply l h → ⊥) → numberOf (readReply l) ≡ 30
+not-reply l never = go (readReply l) refl
+  where
+    go : (r : ReplyRead) → readReply l ≡ r → numberOf r ≡ 30
+    go (Reply h) e = absurd (never h (reply-of l h e))
+    go NotReply e = refl
+
+pub no-spelling : (l : List ℕ) (h : Heard) → numberOf (readReply l) ≡ 30 → spelling.Reply l h → ⊥
+no-spelling l h e p = let y = rw (reply-read p) at e in omega arith

@@ -88,3 +88,8 @@ heard h n =
 unfoldable pub readReply : List ℕ → ReplyRead
 readReply l =
     cond (leb (length l) 96 && framed l (17 + dataLength l) && rightHead (headIn l)) (Reply (heard (headIn l) (dataLength l))) NotReply
+
+-- document 01's number for each case of the answer: "Accepted is 0", and NOTREPLY is 30
+abbrev pub numberOf : ReplyRead → ℕ
+numberOf (Reply h) = 0
+numberOf NotReply = 30
