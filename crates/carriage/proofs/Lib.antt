@@ -1,3 +1,5 @@
 pub mod Fits
 pub mod Replies
 pub mod Steps
+pub mod Demands
+pub mod Cases
