@@ -1,3 +1,5 @@
+-- `view::shown_axis` meets its contract: the axis that was sent, or 0 above the count.
+-- Assumes nothing.
 use Rattle.view.specs.View.{shownAxis}
 use borrow.Author.Tests.{le-leb, lt-leb}
 use borrow.Author.Needs.{needs}

@@ -1,3 +1,5 @@
+-- `view::value_of` meets its contract: a setting, a stored position, or pos.
+-- Assumes nothing.
 use borrow.Author.Needs.{needs}
 use Rattle.view.proofs.value_of.Statement.{statement}
 use Rattle.view.proofs.value_of.Tie as tie
