@@ -1,0 +1,22 @@
+/* What the plain programs share: reading standard input until 4,096 bytes or its end, however it arrives.
+   The kit's compiler comes without headers, so the two calls of the C library are declared here. */
+#ifndef ENTRY_H
+#define ENTRY_H
+#include "plain.h"
+
+long read(int, void *, size_t);
+long write(int, const void *, size_t);
+
+static size_t read_entry(unsigned char *entry)
+{
+    size_t length = 0;
+    while (length < ENTRY_BYTES) {
+        long count = read(0, entry + length, ENTRY_BYTES - length);
+        if (count <= 0)
+            break;
+        length += (size_t)count;
+    }
+    return length;
+}
+
+#endif
