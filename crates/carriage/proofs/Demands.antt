@@ -1,13 +1,17 @@
 -- Demands 1 and 2 on the answer to a line, over every record, line and buffer: what a refusal leaves, and what stays good.
 -- Assumes nothing.
 use mathlib.Core.Path.{_≡_, refl, sym, ap, _∙_}
-use mathlib.Core.Bool.{Bool, true, false, cond}
-use mathlib.Core.List.{List, [], _++_}
+use mathlib.Core.Bool.{Bool, true, false, cond, not}
+use mathlib.Core.List.{List, [], _∷_, _++_}
 use Prim.Native.Nat.{ℕ}
 use native.Mathlib.Omega.{arith}
-use lib.Dec.{eqb}
-use lib.ListN.{length, drop}
+use lib.Dec.{eqb, ltb}
+use lib.ListN.{length, take, drop}
+use lib.Seq.{take-at}
 use borrow.Author.Tests.{eqb-true, ne-eqb}
+use Rattle.laws.specs.Refusals.{Refusal, _when_, firstOf}
+use Rattle.laws.proofs.Bools.{not-false}
+use Rattle.laws.proofs.Refusals.{unmet, below}
 use Rattle.command.specs.declared.Command.{Command}
 use Rattle.phrase.specs.declared.WordsRead.{WordsRead}
 use Rattle.phrase.specs.declared.WordsRead.the-variants as Words
@@ -23,7 +27,7 @@ use Rattle.device.proofs.GoodStays.{good-stays}
 use Rattle.device.proofs.RefusalKeeps.{accepted-next}
 use Rattle.data.specs.Data.{refusalName}
 use Rattle.shown.specs.Data.{dataOf}
-use Rattle.carriage.specs.Step.{Stepped, silent, written, replyOf, rejected, accepted, obeyed, addressed, answered, silence, respond, step}
+use Rattle.carriage.specs.Step.{Stepped, silent, written, replyOf, rejected, accepted, obeyed, unread, notMine, addressed, answered, silence, respond, step}
 
 -- "1 to 5, 20, 21 are silent: length 0, nothing written": and the record stays
 pub record Unchanged (d : Device) (b : List ℕ) (s : Stepped) : Type 0 where
@@ -35,42 +39,66 @@ pub silence-changes-nothing : (d : Device) (l b : List ℕ) → (silence d (read
 unfolding step respond silent
 silence-changes-nothing d l b h = rw (ne-eqb (silence d (readLine l) b) 0 h) (record { next = refl; length = refl; buffer = refl })
 
--- what holds of an answer that is silent, of one that rejects, and of one that accepts, holds of every answer
-module _ (P : Stepped → Type 0) (d : Device) (b : List ℕ) (quiet : (n : ℕ) → P (silent n d b)) (refused : (n k : ℕ) → P (rejected n d k b))
-    (done : (k : ℕ) (es : List (List ℕ)) (c : Command) → refusal d k c ≡ 0 → P (accepted d k es c b)) where
-  obeys : (k : ℕ) (es : List (List ℕ)) (c : Command) → P (obeyed d k es c b)
+-- the rows of the table of silences: none of them applies where there is no silence
+module _ (d : Device) (r : LineRead) (b : List ℕ) (e : silence d r b ≡ 0) where
+  abbrev read : List Refusal
+  read = unread r when not (eqb (unread r) 0) ∷ 5 when notMine d r ∷ []
+
+  room : firstOf (21 when not (good d) ∷ read) ≡ 0
+  unfolding silence
+  room = below 19 (ltb (length b) 96) (21 when not (good d) ∷ read) e
+
+  heard-good : good d ≡ true
+  heard-good = not-false (good d) (unmet 20 (not (good d)) read room)
+
+  heard-number : unread r ≡ 0
+  unfolding firstOf
+  heard-number = go (unread r) (eqb (unread r) 0) refl (below 20 (not (good d)) read room)
+    where
+      go : (n : ℕ) (t : Bool) → eqb n 0 ≡ t → cond (not t) n (cond (notMine d r) 5 0) ≡ 0 → n ≡ 0
+      go n true q h = eqb-true n 0 q
+      go n false q h = h
+
+-- what holds of the silence, of an answer that rejects and of one that accepts, holds of every answer
+module _ (P : Stepped → Type 0) (d : Device) (l b : List ℕ)
+    (quiet : P (silent (silence d (readLine l) b) d b))
+    (refused : (n k : ℕ) → good d ≡ true → P (rejected n d k b))
+    (done : (k skip : ℕ) (c : Command) → good d ≡ true → refusal d k c ≡ 0 → P (accepted d k (echoOf c (drop skip (wordsOf l))) c b)) where
+  obeys : (k skip : ℕ) (c : Command) → good d ≡ true → P (obeyed d k (echoOf c (drop skip (wordsOf l))) c b)
   unfolding obeyed
-  obeys k es c = go (eqb (refusal d k c) 0) refl
+  obeys k skip c g = go (eqb (refusal d k c) 0) refl
     where
-      go : (t : Bool) → eqb (refusal d k c) 0 ≡ t → P (cond t (accepted d k es c b) (rejected (refusal d k c) d k b))
-      go true e = done k es c (eqb-true (refusal d k c) 0 e)
-      go false e = refused (refusal d k c) k
+      go : (t : Bool) → eqb (refusal d k c) 0 ≡ t → P (cond t (accepted d k (echoOf c (drop skip (wordsOf l))) c b) (rejected (refusal d k c) d k b))
+      go true e = done k skip c g (eqb-true (refusal d k c) 0 e)
+      go false e = refused (refusal d k c) k g
 
-  answers : (ws : List (List ℕ)) (r : LineRead) → P (answered d ws r b)
-  answers ws (Silent n) = quiet n
-  answers ws (Addressed n k skip (Words.Refused m)) = refused m k
-  answers ws (Addressed n k skip (Words.Command c)) = obeys k (echoOf c (drop skip ws)) c
+  answers : (r : LineRead) → good d ≡ true → P (silent (unread r) d b) → P (answered d (wordsOf l) r b)
+  answers (Silent n) g q = q
+  answers (Addressed n k skip (Words.Refused m)) g q = refused m k g
+  answers (Addressed n k skip (Words.Command c)) g q = obeys k skip c g
 
-  pub every-answer : (l : List ℕ) → P (step d l b)
+  pub every-answer : P (step d l b)
   unfolding step respond
-  every-answer l = go (eqb (silence d (readLine l) b) 0)
+  every-answer = go (eqb (silence d (readLine l) b) 0) refl
     where
-      go : (t : Bool) → P (cond t (answered d (wordsOf l) (readLine l) b) (silent (silence d (readLine l) b) d b))
-      go true = answers (wordsOf l) (readLine l)
-      go false = quiet (silence d (readLine l) b)
+      go : (t : Bool) → eqb (silence d (readLine l) b) 0 ≡ t → P (cond t (answered d (wordsOf l) (readLine l) b) (silent (silence d (readLine l) b) d b))
+      go true e =
+          let z = eqb-true (silence d (readLine l) b) 0 e in
+          answers (readLine l) (heard-good d (readLine l) b z) (rw (heard-number d (readLine l) b z, ← z) quiet)
+      go false e = quiet
 
 -- A refusal, silent or replied, leaves the record as it was.
 pub refusal-keeps-the-record : (d : Device) (l b : List ℕ) → (step d l b .answer .number ≡ 0 → ⊥) → step d l b .answer .next ≡ d
 unfolding silent rejected accepted written
 refusal-keeps-the-record d l b =
-    every-answer (λ s. (s .answer .number ≡ 0 → ⊥) → s .answer .next ≡ d) d b (λ n h. refl) (λ n k h. refl) (λ k es c e h. absurd (h refl)) l
+    every-answer (λ s. (s .answer .number ≡ 0 → ⊥) → s .answer .next ≡ d) d l b (λ h. refl) (λ n k g h. refl) (λ k skip c g e h. absurd (h refl))
 
 -- On a good record the next record is good.
 pub good-goes-on : (d : Device) (l b : List ℕ) → length (d .axes) ≡ 4 → good d ≡ true → good (step d l b .answer .next) ≡ true
 unfolding silent rejected accepted written obey
 good-goes-on d l b four g =
-    every-answer (λ s. good (s .answer .next) ≡ true) d b (λ n. g) (λ n k. g)
-    (λ k es c e. ap good (sym (accepted-next d k c e)) ∙ good-stays d k c four g) l
+    every-answer (λ s. good (s .answer .next) ≡ true) d l b g (λ n k g. g)
+    (λ k skip c g e. ap good (sym (accepted-next d k c e)) ∙ good-stays d k c four g)
 
 -- Bytes behind a reply keep their values, whatever was answered: the buffer is some text, and what stood behind it.
 pub record Behind (b : List ℕ) (s : Stepped) : Type 0 where
@@ -81,5 +109,23 @@ pub record Behind (b : List ℕ) (s : Stepped) : Type 0 where
 pub keeps-behind : (d : Device) (l b : List ℕ) → Behind b (step d l b)
 unfolding silent rejected accepted written
 keeps-behind d l b =
-    every-answer (Behind b) d b (λ n. record { text = []; long = refl; left = refl }) (λ n k. record { text = replyOf d k false (refusalName n); long = refl; left = refl })
-    (λ k es c e. record { text = replyOf (next d k c) k true (dataOf d k es c); long = refl; left = refl }) l
+    every-answer (Behind b) d l b (record { text = []; long = refl; left = refl }) (λ n k g. record { text = replyOf d k false (refusalName n); long = refl; left = refl })
+    (λ k skip c g e. record { text = replyOf (next d k c) k true (dataOf d k (echoOf c (drop skip (wordsOf l))) c); long = refl; left = refl })
+
+-- "A reply describes the record after the command": what stands in the buffer is a reply of the next record, so that its address,
+-- its status, its highest warning and whether it has a sum are the next record's.
+pub record Describes (s : Stepped) : Type 0 where
+  pub axis : ℕ
+  pub ok : Bool
+  pub words : List ℕ
+  pub reply : take (s .answer .length) (s .buffer) ≡ replyOf (s .answer .next) axis ok words
+
+pub reply-describes-next : (d : Device) (l b : List ℕ) → (step d l b .answer .length ≡ 0 → ⊥) → Describes (step d l b)
+unfolding silent rejected accepted written
+reply-describes-next d l b =
+    every-answer (λ s. (s .answer .length ≡ 0 → ⊥) → Describes s) d l b (λ h. absurd (h refl))
+    (λ n k g h. let t : List ℕ = replyOf d k false (refusalName n) in record { axis = k; ok = false; words = refusalName n; reply = take-at t (drop (length t) b) (length t) refl })
+    (λ k skip c g e h.
+      let shows : List ℕ = dataOf d k (echoOf c (drop skip (wordsOf l))) c in
+      let t : List ℕ = replyOf (next d k c) k true shows in
+      record { axis = k; ok = true; words = shows; reply = take-at t (drop (length t) b) (length t) refl })

@@ -2,4 +2,5 @@ pub mod Fits
 pub mod Replies
 pub mod Steps
 pub mod Demands
+pub mod Room
 pub mod Cases

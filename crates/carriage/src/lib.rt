@@ -9,6 +9,7 @@ ghost use Rattle.phrase.specs.Reading.{echoOf};
 ghost use Rattle.line.specs.Reading.{readWords};
 ghost use Rattle.state.specs.Good.{good as goodOf};
 ghost use Rattle.device.specs.Refusals.{refusal as refusalOf};
+ghost use Rattle.carriage.specs.Report.{report as reportOf};
 ghost use Rattle.carriage.specs.Step.{Gives, silent as silentOf, rejected, accepted, obeyed, wantsSum, concerns as concernsOf, addressed as addressedTo, respond, step as stepOf};
 use command::Command;
 use device::effects::next;
@@ -19,6 +20,8 @@ use phrase::WordsRead;
 use reply::put_end;
 use reply::put_head;
 use state::Device;
+use state::Outcome;
+use units::Number;
 
 // The answer to a line: the number, the reply's length, and the next record.
 pub struct Answer {
@@ -152,4 +155,11 @@ pub fn step(d: Device, line: &[u8], reply: &mut [u8]) -> Answer
         Frame::Refused(n) => silent(d, n),
         Frame::Content(n) => heard(d, &line[1..n + 1], reply),
     }
+}
+
+// What a motor report makes of a record.
+pub fn report(d: Device, axis: Number, kind: Number, last: Number) -> Outcome
+    ensures { λ r. ⌜ r ≡ reportOf d axis kind last ⌝ }
+{
+    device::motor::report(d, axis, reports::report_of(kind, last))
 }

@@ -113,7 +113,7 @@ module _ (t : List ℕ) (e : ℕ) (at : e ≡ span printable t) where
 
   -- the same, of the part that the code hands over
   module _ {b : Bool} (told : b ≡ isFooter (take (length t - e) (drop e t))) where
-    footer-told : isFooter (drop e t) ≡ b
+    pub footer-told : isFooter (drop e t) ≡ b
     footer-told = rw (rest e t) at (sym told)
 
     pub footer-yes : {r : Frame} → b ≡ true → r ≡ parted (take e t) → r ≡ afterSlash t

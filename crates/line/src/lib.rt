@@ -24,7 +24,7 @@ pub enum LineRead {
 }
 
 // How many bytes from the front are no forbidden ones.
-fn printable_len(s: &[u8]) -> usize
+pub fn printable_len(s: &[u8]) -> usize
     ensures { λ r. ⌜ r ≡ span printable (now (s .entry)) ⌝ }
 {
     let mut i: usize = 0;
@@ -65,7 +65,7 @@ fn is_end(c: u8) -> bool
 }
 
 // Are the bytes a footer?
-fn is_footer(f: &[u8]) -> bool
+pub fn is_footer(f: &[u8]) -> bool
     ensures { λ r. ⌜ r ≡ isFooter (now (f .entry)) ⌝ }
 {
     if f.len() == 1 {

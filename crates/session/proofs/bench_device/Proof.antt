@@ -1,0 +1,19 @@
+-- `session::bench_device` meets its contract.
+-- Assumes nothing.
+use Rattle.session.specs.Bench.{benchDevice}
+use borrow.Author.Needs.{needs}
+use Rattle.session.proofs.bench_device.Statement.{statement}
+use Rattle.session.proofs.bench_device.Tie as tie
+use Rattle.session.proofs.bench_device.Reads as reads
+use Rattle.session.proofs.bench_device.Lts as lts
+use Rattle.state.proofs.Device.new.Reads as new-reads
+
+new-requires : tie.Need-new-requires
+new-requires c κs = search needs
+
+returns : tie.Need-returns
+unfolding benchDevice
+returns c = search needs
+
+pub bench-device-spec : {M : Type 1} → statement M
+bench-device-spec = tie.close (tie.spec new-requires returns)

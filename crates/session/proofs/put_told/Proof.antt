@@ -1,0 +1,36 @@
+-- `session::put_told` meets its contract: name, number and LF, one behind the other.
+-- Assumes nothing.
+use Rattle.laws.specs.Text.{text}
+use Rattle.wire.proofs.Wrote.{_▸_}
+use Rattle.session.specs.Bench.{told}
+use borrow.Author.Needs.{needs}
+use Rattle.session.proofs.put_told.Statement.{statement}
+use Rattle.session.proofs.put_told.Tie as tie
+use Rattle.session.proofs.put_told.Reads as reads
+use Rattle.session.proofs.put_told.Lts as lts
+use Rattle.wire.proofs.put_byte.Reads as put-byte-reads
+use Rattle.wire.proofs.put_number.Reads as put-number-reads
+use Rattle.wire.proofs.put_text.Reads as put-text-reads
+
+put-text-requires : tie.Need-put-text-requires
+put-text-requires c κs = search needs
+
+put-number-requires : tie.Need-put-number-requires
+put-number-requires c κs = search needs
+
+put-byte-requires : tie.Need-put-byte-requires
+put-byte-requires c κs = search needs
+
+same-length : tie.Need-same-length
+same-length c = search needs
+
+returns : tie.Need-returns
+unfolding told text
+returns c =
+    let number = c .before .before .before .before .before .before in
+    number .before .before .before .before .put-text .ensures ▸ number .put-number .ensures ▸ c .before .before .put-byte .ensures
+
+pub put-told-spec : {M : Type 1} → statement M
+put-told-spec =
+    tie.close
+    (tie.spec put-text-requires put-number-requires put-byte-requires same-length returns)

@@ -1,0 +1,44 @@
+-- `session::run` meets its contract: the parts of the first 4,096 bytes, from the record that bench begins with.
+-- Assumes nothing.
+use borrow.Author.Needs.{needs}
+use native.Mathlib.Omega.{arith}
+use lib.ListN.{length-take}
+use Rattle.session.proofs.Turns.{ran}
+use Rattle.session.proofs.run.Statement.{statement}
+use Rattle.session.proofs.run.Tie as tie
+use Rattle.session.proofs.run.Reads as reads
+use Rattle.session.proofs.run.Lts as lts
+use Rattle.data.proofs.lesser.Reads as lesser-reads
+use Rattle.session.proofs.bench_device.Reads as bench-device-reads
+use Rattle.session.proofs.run_parts.Reads as run-parts-reads
+
+lesser-requires : tie.Need-lesser-requires
+lesser-requires c κs = search needs
+
+bench-device-requires : tie.Need-bench-device-requires
+bench-device-requires c κs = search needs
+
+slice-aggregate-run-parts : tie.Need-slice-aggregate-run-parts
+slice-aggregate-run-parts c = simp length-take (omega (arith, c .before .before .lesser .ensures))
+
+run-parts-requires : tie.Need-run-parts-requires
+run-parts-requires c κs = search needs
+
+same-length : tie.Need-same-length
+same-length c = search needs
+
+returns : tie.Need-returns
+returns c =
+    let device = c .before .before .before .before .before in
+    ran _ _ (device .before .lesser .ensures) (device .bench-device .ensures) (c .before .before .run-parts .ensures)
+
+pub run-spec : {M : Type 1} → statement M
+run-spec =
+    tie.close
+    (tie.spec
+    lesser-requires
+    bench-device-requires
+    slice-aggregate-run-parts
+    run-parts-requires
+    same-length
+    returns)

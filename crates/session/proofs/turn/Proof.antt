@@ -1,0 +1,53 @@
+-- `session::turn` meets its contract: a report, or a line.
+-- Assumes nothing.
+use borrow.Author.Needs.{needs}
+use Rattle.session.proofs.Turns.{turn-report, turn-line}
+use Rattle.session.proofs.turn.Statement.{statement}
+use Rattle.session.proofs.turn.Tie as tie
+use Rattle.session.proofs.turn.Reads as reads
+use Rattle.session.proofs.turn.Lts as lts
+use Rattle.reportline.proofs.read_report.Reads as read-report-reads
+use Rattle.session.proofs.is_report.Reads as is-report-reads
+use Rattle.session.proofs.line_turn.Reads as line-turn-reads
+use Rattle.session.proofs.report_turn.Reads as report-turn-reads
+
+is-report-requires : tie.Need-is-report-requires
+is-report-requires c κs = search needs
+
+read-report-requires : tie.Need-read-report-requires
+read-report-requires c κs = search needs
+
+report-turn-requires : tie.Need-report-turn-requires
+report-turn-requires c κs = search needs
+
+line-turn-requires : tie.Need-line-turn-requires
+line-turn-requires c κs = search needs
+
+same-length : tie.Need-same-length
+same-length c = search needs
+
+returns : tie.Need-returns
+returns c =
+    let read = c .before .before .before .before in
+    turn-report _ _ (read .before .before .is-report .ensures) (read .before .if1 .taken) (read .read-report .ensures) (c .before .before .report-turn .ensures)
+
+same-length-2 : tie.Need-same-length-2
+same-length-2 c = search needs
+
+returns-2 : tie.Need-returns-2
+returns-2 c =
+    let test = c .before .before .before .before in
+    turn-line _ _ (test .before .is-report .ensures) (test .if1 .left) (c .before .before .line-turn .ensures)
+
+pub turn-spec : {M : Type 1} → statement M
+turn-spec =
+    tie.close
+    (tie.spec
+    is-report-requires
+    read-report-requires
+    report-turn-requires
+    line-turn-requires
+    same-length
+    returns
+    same-length-2
+    returns-2)
