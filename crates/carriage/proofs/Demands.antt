@@ -126,6 +126,6 @@ reply-describes-next d l b =
     every-answer (λ s. (s .answer .length ≡ 0 → ⊥) → Describes s) d l b (λ h. absurd (h refl))
     (λ n k g h. let t : List ℕ = replyOf d k false (refusalName n) in record { axis = k; ok = false; words = refusalName n; reply = take-at t (drop (length t) b) (length t) refl })
     (λ k skip c g e h.
-      let shows : List ℕ = dataOf d k (echoOf c (drop skip (wordsOf l))) c in
-      let t : List ℕ = replyOf (next d k c) k true shows in
-      record { axis = k; ok = true; words = shows; reply = take-at t (drop (length t) b) (length t) refl })
+    let shows : List ℕ = dataOf d k (echoOf c (drop skip (wordsOf l))) c in
+    let t : List ℕ = replyOf (next d k c) k true shows in
+    record { axis = k; ok = true; words = shows; reply = take-at t (drop (length t) b) (length t) refl })

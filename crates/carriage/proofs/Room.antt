@@ -60,10 +60,10 @@ reply-at-most-96 d l b =
     every-answer (λ s. s .answer .length ≤ 96) d l b (omega arith)
     (λ n k g. reply-short d k false (refusalName n) (good-count d g) (omega (arith, refusal-length n)))
     (λ k skip c g e.
-      let s = content-of l in
-      let few : next d k c .count ≤ 4 = rw (next-count d k c) (good-count d g) in
-      reply-short (next d k c) k true (dataOf d k (echoOf c (drop skip (wordsOf l))) c) few
-      (rw (s .words) (data-fits d k c (s .bytes) skip g (good-count d g) e (s .short))))
+    let s = content-of l in
+    let few : next d k c .count ≤ 4 = rw (next-count d k c) (good-count d g) in
+    reply-short (next d k c) k true (dataOf d k (echoOf c (drop skip (wordsOf l))) c) few
+    (rw (s .words) (data-fits d k c (s .bytes) skip g (good-count d g) e (s .short))))
 
 -- ---- the numbers of silence
 unread-small : (r : LineRead) → unread r ≤ numberOf r
