@@ -41,30 +41,12 @@ pub fn device_range(s: DeviceSetting) -> Range
     ensures { λ r. ⌜ r ≡ deviceRange s ⌝ }
 {
     match s {
-        DeviceSetting::CommAddress => Range {
-            least: Number(1),
-            most: Number(99),
-        },
-        DeviceSetting::CommAlert => Range {
-            least: Number(0),
-            most: Number(1),
-        },
-        DeviceSetting::CommChecksum => Range {
-            least: Number(0),
-            most: Number(1),
-        },
-        DeviceSetting::SystemAccess => Range {
-            least: Number(1),
-            most: Number(2),
-        },
-        DeviceSetting::DeviceId => Range {
-            least: Number(0),
-            most: Number(2147483647),
-        },
-        DeviceSetting::SystemAxisCount => Range {
-            least: Number(1),
-            most: Number(4),
-        },
+        DeviceSetting::CommAddress => Number(1).to(Number(99)),
+        DeviceSetting::CommAlert => Number(0).to(Number(1)),
+        DeviceSetting::CommChecksum => Number(0).to(Number(1)),
+        DeviceSetting::SystemAccess => Number(1).to(Number(2)),
+        DeviceSetting::DeviceId => Number(0).to(Number(2147483647)),
+        DeviceSetting::SystemAxisCount => Number(1).to(Number(4)),
     }
 }
 
@@ -101,46 +83,16 @@ impl Settings {
         let high = self.limit.max.number();
         let current = self.current.max;
         match s {
-            AxisSetting::Pos => Range {
-                least: Number(-1000000000),
-                most: Number(1000000000),
-            },
-            AxisSetting::LimitMin => Range {
-                least: Number(-1000000000),
-                most: high,
-            },
-            AxisSetting::LimitMax => Range {
-                least: low,
-                most: Number(1000000000),
-            },
-            AxisSetting::MaxSpeed => Range {
-                least: Number(1),
-                most: Number(1000000000),
-            },
-            AxisSetting::Accel => Range {
-                least: Number(0),
-                most: Number(32767),
-            },
-            AxisSetting::DriverCurrentMax => Range {
-                least: Number(0),
-                most: Number(255),
-            },
-            AxisSetting::DriverCurrentRun => Range {
-                least: Number(0),
-                most: current,
-            },
-            AxisSetting::DriverCurrentHold => Range {
-                least: Number(0),
-                most: current,
-            },
-            AxisSetting::DriverDir => Range {
-                least: Number(0),
-                most: Number(1),
-            },
-            AxisSetting::EncoderIndexCount => Range {
-                least: Number(-32768),
-                most: Number(32767),
-            },
+            AxisSetting::Pos => Number(-1000000000).to(Number(1000000000)),
+            AxisSetting::LimitMin => Number(-1000000000).to(high),
+            AxisSetting::LimitMax => low.to(Number(1000000000)),
+            AxisSetting::MaxSpeed => Number(1).to(Number(1000000000)),
+            AxisSetting::Accel => Number(0).to(Number(32767)),
+            AxisSetting::DriverCurrentMax => Number(0).to(Number(255)),
+            AxisSetting::DriverCurrentRun => Number(0).to(current),
+            AxisSetting::DriverCurrentHold => Number(0).to(current),
+            AxisSetting::DriverDir => Number(0).to(Number(1)),
+            AxisSetting::EncoderIndexCount => Number(-32768).to(Number(32767)),
         }
     }
 
@@ -178,9 +130,7 @@ impl Settings {
         let mut limit = self.limit;
         let mut current = self.current;
         match s {
-            AxisSetting::Pos => {
-                self.pos = n.position();
-            }
+            AxisSetting::Pos => self.pos = n.position(),
             AxisSetting::LimitMin => {
                 limit.min = n.position();
                 self.limit = limit;
@@ -189,12 +139,8 @@ impl Settings {
                 limit.max = n.position();
                 self.limit = limit;
             }
-            AxisSetting::MaxSpeed => {
-                self.maxspeed = n.speed();
-            }
-            AxisSetting::Accel => {
-                self.accel = n;
-            }
+            AxisSetting::MaxSpeed => self.maxspeed = n.speed(),
+            AxisSetting::Accel => self.accel = n,
             AxisSetting::DriverCurrentMax => {}
             AxisSetting::DriverCurrentRun => {
                 current.run = n;
@@ -204,12 +150,8 @@ impl Settings {
                 current.hold = n;
                 self.current = current;
             }
-            AxisSetting::DriverDir => {
-                self.dir = n;
-            }
-            AxisSetting::EncoderIndexCount => {
-                self.index = n;
-            }
+            AxisSetting::DriverDir => self.dir = n,
+            AxisSetting::EncoderIndexCount => self.index = n,
         }
         self
     }
