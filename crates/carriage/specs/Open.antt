@@ -13,7 +13,7 @@ use Rattle.axis.specs.Good as AxisGood
 use Rattle.axis.specs.Moves as AxisMoves
 use Rattle.axis.specs.Record as AxisRecord
 use Rattle.axis.specs.Travel as AxisTravel
-use Rattle.state.specs.Each as StateEach
+use Rattle.walks.specs.Each as StateEach
 use Rattle.state.specs.Good as StateGood
 use Rattle.state.specs.Record as StateRecord
 use Rattle.device.specs.Effects as DeviceEffects

@@ -7,8 +7,8 @@ use command::Command;
 use command::Setting;
 use state::Device;
 use state::Outcome;
-use state::each::Change;
 use units::Number;
+use walks::Change;
 
 fn put_setting(d: Device, s: Setting, n: Number) -> Device
     ensures { λ r. ⌜ r ≡ putSetting s n d ⌝ }

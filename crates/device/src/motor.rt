@@ -5,9 +5,9 @@ ghost use Rattle.device.specs.Reports.{isAxis, badReport, reportRefusal,
 use reports::Report;
 use state::Device;
 use state::Outcome;
-use state::each::Change;
-use state::each::Test;
 use units::Number;
+use walks::Change;
+use walks::Test;
 
 // Is k an axis from 1 up to the count?
 fn is_axis(d: Device, k: u64) -> bool

@@ -4,7 +4,7 @@ ghost use mathlib.Core.Path.{_≡_};
 ghost use Rattle.device.specs.Refusals.{badAxis, deviceOnly, noAccess, parked as parkedFor, statusBusy, badData, refusal as refusalOf};
 use command::Command;
 use state::Device;
-use state::each::Test;
+use walks::Test;
 
 // 13 DEVICEONLY: axis not 0, device scope.
 fn device_only(k: u64, c: Command) -> bool

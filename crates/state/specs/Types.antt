@@ -25,5 +25,3 @@ pub use Rattle.reports.specs.declared.Report.the-variants.{MovingAt, StoppedAt,
 pub use Rattle.state.specs.declared.Comm.{Comm}
 pub use Rattle.state.specs.declared.Device.{Device}
 pub use Rattle.state.specs.declared.Outcome.{Outcome}
-pub use Rattle.state.specs.declared.each.Test.{Test}
-pub use Rattle.state.specs.declared.each.Change.{Change}

@@ -8,10 +8,10 @@ ghost use Rattle.state.specs.Record.{axesOf};
 ghost use Rattle.state.specs.Good.{inRange, good as goodOf, mayBeFresh, askFresh};
 use crate::Device;
 use crate::Outcome;
-use crate::each::Test;
 use command::DeviceSetting;
 use settings::device_range;
 use units::Number;
+use walks::Test;
 
 impl Device {
     fn in_range(self, s: DeviceSetting) -> bool

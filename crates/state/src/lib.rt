@@ -107,5 +107,5 @@ impl Device {
     }
 }
 
-pub mod each;
+pub mod axes;
 pub mod good;

@@ -1,6 +1,7 @@
 -- `view::put_values` meets its contract: the values of the axes that the number means.
 -- Assumes nothing.
-use Rattle.state.proofs.Parts.{part-inside, part-axes}
+use Rattle.state.specs.Record.{many, axesOf}
+use Rattle.walks.proofs.Parts.{part-inside, part-axes}
 use Rattle.view.specs.View.{valuesOf}
 use borrow.Author.Needs.{needs}
 use Rattle.view.proofs.put_values.Statement.{statement}
@@ -20,11 +21,11 @@ same-length : tie.Need-same-length
 same-length c = search needs
 
 returns : tie.Need-returns
-unfolding valuesOf
+unfolding valuesOf axesOf
 returns c =
     let list = c .before .before in
     let a = c .before .before .before .before .before .before .before .args in
-    rw (part-axes (a .d) (a .k) _ (list .put-list .ensures .0) (list .before .before .part .ensures)) at (list .put-list .ensures .1)
+    rw (part-axes (a .d .axes) (many (a .d) (a .k)) (a .k) _ (list .put-list .ensures .0) (list .before .before .part .ensures)) at (list .put-list .ensures .1)
 
 pub put-values-spec : {M : Type 1} → statement M
 put-values-spec = tie.close (tie.spec part-requires put-list-requires same-length returns)

@@ -1,25 +1,19 @@
--- The walk over the places that k means.
+-- The walk over the places of the axes that the number means.
 -- Assumes nothing.
+use Rattle.state.specs.Record.{axesOf}
 use borrow.Author.Needs.{needs}
-use mathlib.Core.Path.{ap, _∙_}
-use mathlib.Core.List.{List}
-use Rattle.flags.specs.Flags.{mask, union}
-use Rattle.axis.specs.Warnings.{active}
-use Rattle.state.specs.Types.{Axis}
-use Rattle.state.proofs.Parts.{part-inside, part-axes}
 use Rattle.state.proofs.Device.active.Statement.{statement}
 use Rattle.state.proofs.Device.active.Tie as tie
 
-part-requires : tie.Need-part-requires
-part-requires c κs = search needs
+many-requires : tie.Need-many-requires
+many-requires c κs = search needs
 
-all-active-requires : tie.Need-all-active-requires
-all-active-requires c κs = part-inside _ _ _ (c .part .ensures)
+join-flags-requires : tie.Need-join-flags-requires
+join-flags-requires c κs = search needs
 
 returns : tie.Need-returns
-returns c =
-    c .all-active .ensures .1
-    ∙ ap (λ (l : List Axis). mask (union active l)) (part-axes (c .before .before .before .args .self) (c .before .before .before .args .k) _ (c .all-active .ensures .0) (c .before .part .ensures))
+unfolding axesOf
+returns c = simp (c .join-flags .ensures, c .before .many .ensures)
 
 pub active-spec : {M : Type 1} → statement M
-active-spec = tie.close (tie.spec part-requires all-active-requires returns)
+active-spec = tie.close (tie.spec many-requires join-flags-requires returns)

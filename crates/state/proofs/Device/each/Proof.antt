@@ -1,21 +1,19 @@
--- The walk over the places that k means.
+-- The walk over the places of the axes that the number means.
 -- Assumes nothing.
-use mathlib.Core.Path.{ap, _∙_}
-use Rattle.laws.specs.Lists.{all}
-use Rattle.state.specs.Each.{passes}
-use Rattle.state.proofs.Parts.{part-inside, part-axes}
+use Rattle.state.specs.Record.{axesOf}
 use borrow.Author.Needs.{needs}
 use Rattle.state.proofs.Device.each.Statement.{statement}
 use Rattle.state.proofs.Device.each.Tie as tie
 
-part-requires : tie.Need-part-requires
-part-requires c κs = search needs
+many-requires : tie.Need-many-requires
+many-requires c κs = search needs
 
-all-pass-requires : tie.Need-all-pass-requires
-all-pass-requires c κs = part-inside _ _ _ (c .part .ensures)
+ask-each-requires : tie.Need-ask-each-requires
+ask-each-requires c κs = search needs
 
 returns : tie.Need-returns
-returns c = c .all-pass .ensures .1 ∙ ap (all (passes (c .before .before .before .args .t))) (part-axes (c .before .before .before .args .self) (c .before .before .before .args .k) _ (c .all-pass .ensures .0) (c .before .part .ensures))
+unfolding axesOf
+returns c = simp (c .ask-each .ensures, c .before .many .ensures)
 
 pub each-spec : {M : Type 1} → statement M
-each-spec = tie.close (tie.spec part-requires all-pass-requires returns)
+each-spec = tie.close (tie.spec many-requires ask-each-requires returns)

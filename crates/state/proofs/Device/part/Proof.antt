@@ -1,36 +1,17 @@
--- The place before, and how many, of the four that there are.
+-- The places of the axes that the number means.
 -- Assumes nothing.
-use Rattle.state.specs.Each.{partOf}
 use borrow.Author.Needs.{needs}
 use Rattle.state.proofs.Device.part.Statement.{statement}
 use Rattle.state.proofs.Device.part.Tie as tie
 
-before-requires : tie.Need-before-requires
-before-requires c κs = search needs
-
-least-requires : tie.Need-least-requires
-least-requires c κs = search needs
-
 many-requires : tie.Need-many-requires
 many-requires c κs = search needs
 
-sub-least : tie.Need-sub-least
-sub-least c = search needs
-
-least-requires-2 : tie.Need-least-requires-2
-least-requires-2 c κs = search needs
+part-of-requires : tie.Need-part-of-requires
+part-of-requires c κs = search needs
 
 returns : tie.Need-returns
-unfolding partOf
-returns c =
-    simp (
-      c .least2 .ensures,
-      c .before .many .ensures,
-      c .before .before .least .ensures,
-      c .before .before .before .before2 .ensures,
-    )
+returns c = simp (c .part-of .ensures, c .before .many .ensures)
 
 pub part-spec : {M : Type 1} → statement M
-part-spec =
-    tie.close
-    (tie.spec before-requires least-requires many-requires sub-least least-requires-2 returns)
+part-spec = tie.close (tie.spec many-requires part-of-requires returns)

@@ -1,14 +1,12 @@
-// Three walks over the axes that a number means: to ask each the same question, to join their flags, to change each.
-// Axis 0 means all axes up to the count.
+// Three walks over the axis places of a device: to ask each the same question, to join their flags, to change each.
+// The places are n from the number k on, or as many of them as there are; k is 1 for the first, and 0 means the same.
 ghost use mathlib.Core.Path.{_≡_};
 ghost use Prim.Native.Nat.{_+_, _-_, _≤_, min};
 ghost use lib.ListN.{length, take, drop};
 ghost use Rattle.laws.specs.Lists.{all, changeFrom};
 ghost use Rattle.flags.specs.Flags.{mask, union};
 ghost use Rattle.axis.specs.Warnings.{active as activeOf};
-ghost use Rattle.state.specs.Record.{many as manyOf, axesOf, onAxes};
-ghost use Rattle.state.specs.Each.{passes as passesOf, changed as changedBy, partOf};
-use crate::Device;
+ghost use Rattle.walks.specs.Each.{passes as passesOf, changed as changedBy, partOf};
 use axis::Axis;
 use command::Command;
 use reports::Report;
@@ -93,7 +91,6 @@ fn change_all(axes: [Axis; 4], g: Change, from: usize, many: usize) -> [Axis; 4]
     next
 }
 
-// The flags that are active on some of the axes.
 fn all_active(axes: [Axis; 4], from: usize, many: usize) -> u32
     requires { ⌜ from + many ≤ 4 ⌝ }
     ensures { λ r. ⌜ (length axes ≡ 4) × (r ≡ mask (union activeOf (take many (drop from axes)))) ⌝ }
@@ -122,51 +119,38 @@ fn before(k: u64) -> u64
     if k == 0 { 0 } else { k - 1 }
 }
 
-impl Device {
-    fn many(self, k: u64) -> u64
-        ensures { λ r. ⌜ r ≡ manyOf self k ⌝ }
-    {
-        if k == 0 { self.count as u64 } else { 1 }
+// The n places from the number k on, of the four that there are.
+pub fn part_of(k: u64, n: u64) -> Part
+    ensures { λ r. ⌜ r ≡ partOf n k ⌝ }
+{
+    let from = least(before(k), 4);
+    let many = least(n, 4 - from);
+    Part {
+        from: from as usize,
+        many: many as usize,
     }
+}
 
-    // The axis places that k means; there are four.
-    pub fn part(self, k: u64) -> Part
-        ensures { λ r. ⌜ r ≡ partOf (manyOf self k) k ⌝ }
-    {
-        let from = least(before(k), 4);
-        let many = least(self.many(k), 4 - from);
-        Part {
-            from: from as usize,
-            many: many as usize,
-        }
-    }
+// Does each of these axes pass the test?
+pub fn ask_each(axes: [Axis; 4], k: u64, n: u64, t: Test) -> bool
+    ensures { λ r. ⌜ r ≡ all (passesOf t) (take n (drop (k - 1) axes)) ⌝ }
+{
+    let p = part_of(k, n);
+    all_pass(axes, t, p.from, p.many)
+}
 
-    // Does every axis that k means pass the test?
-    pub fn each(self, k: u64, t: Test) -> bool
-        ensures { λ r. ⌜ r ≡ all (passesOf t) (axesOf self k) ⌝ }
-    {
-        let axes = self.axes;
-        let p = self.part(k);
-        all_pass(axes, t, p.from, p.many)
-    }
+// The flags that are active on some of these axes, FD to WR, as a mask.
+pub fn join_flags(axes: [Axis; 4], k: u64, n: u64) -> u32
+    ensures { λ r. ⌜ r ≡ mask (union activeOf (take n (drop (k - 1) axes))) ⌝ }
+{
+    let p = part_of(k, n);
+    all_active(axes, p.from, p.many)
+}
 
-    // The flags that are active on some axis that k means, FD to WR, as a mask.
-    pub fn active(self, k: u64) -> u32
-        ensures { λ r. ⌜ r ≡ mask (union activeOf (axesOf self k)) ⌝ }
-    {
-        let axes = self.axes;
-        let p = self.part(k);
-        all_active(axes, p.from, p.many)
-    }
-
-    // Every axis that k means changed, and all other places as they are.
-    pub fn change(mut self, k: u64, g: Change) -> Device
-        ensures { λ r. ⌜ r ≡ onAxes (changedBy g) k self ⌝ }
-    {
-        let axes = self.axes;
-        let p = self.part(k);
-        let next = change_all(axes, g, p.from, p.many);
-        self.axes = next;
-        self
-    }
+// These axes changed, and all other places as they are.
+pub fn change_each(axes: [Axis; 4], k: u64, n: u64, g: Change) -> [Axis; 4]
+    ensures { λ r. ⌜ r ≡ changeFrom (changedBy g) (k - 1) n axes ⌝ }
+{
+    let p = part_of(k, n);
+    change_all(axes, g, p.from, p.many)
 }

@@ -1,8 +1,8 @@
 -- A command and a report.
 -- Assumes nothing.
 use borrow.Author.Needs.{needs}
-use Rattle.state.proofs.each.changed.Statement.{statement}
-use Rattle.state.proofs.each.changed.Tie as tie
+use Rattle.walks.proofs.changed.Statement.{statement}
+use Rattle.walks.proofs.changed.Tie as tie
 
 enum-known-g : tie.Need-enum-known-g
 enum-known-g c = search needs

@@ -8,9 +8,9 @@ use borrow.Author.Needs.{needs}
 use lib.ListN.{drop, take, length}
 use Rattle.laws.specs.Lists.{all}
 use Rattle.laws.proofs.Folds.{all-more, all-end, length-part, getD-part}
-use Rattle.state.specs.Each.{passes}
-use Rattle.state.proofs.each.all_pass.Statement.{statement}
-use Rattle.state.proofs.each.all_pass.Tie as tie
+use Rattle.walks.specs.Each.{passes}
+use Rattle.walks.proofs.all_pass.Statement.{statement}
+use Rattle.walks.proofs.all_pass.Tie as tie
 
 abbrev Inv-loop : tie.InvT-loop
 Inv-loop t from many axes ok₀ n₀ ok n =

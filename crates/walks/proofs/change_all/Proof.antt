@@ -7,9 +7,9 @@ use borrow.Author.Needs.{needs}
 use lib.ListN.{length}
 use Rattle.laws.specs.Lists.{changeFrom}
 use Rattle.laws.proofs.Folds.{change-more, change-none}
-use Rattle.state.specs.Each.{changed}
-use Rattle.state.proofs.each.change_all.Statement.{statement}
-use Rattle.state.proofs.each.change_all.Tie as tie
+use Rattle.walks.specs.Each.{changed}
+use Rattle.walks.proofs.change_all.Statement.{statement}
+use Rattle.walks.proofs.change_all.Tie as tie
 
 abbrev Inv-loop : tie.InvT-loop
 Inv-loop g from many axes next₀ n₀ next n = (n ≤ many) × (next ≡ changeFrom (changed g) from n axes)

@@ -1,8 +1,8 @@
 -- Each kind of question.
 -- Assumes nothing.
 use borrow.Author.Needs.{needs}
-use Rattle.state.proofs.each.passes.Statement.{statement}
-use Rattle.state.proofs.each.passes.Tie as tie
+use Rattle.walks.proofs.passes.Statement.{statement}
+use Rattle.walks.proofs.passes.Tie as tie
 
 enum-told : tie.Need-enum-told
 enum-told c = search needs

@@ -10,8 +10,8 @@ use Rattle.flags.specs.Flags.{bits, mask, either, union}
 use Rattle.flags.proofs.Bits.{mask-bits}
 use Rattle.flags.proofs.Unions.{bits-active, union-start, union-more, union-end}
 use Rattle.axis.specs.Warnings.{active}
-use Rattle.state.proofs.each.all_active.Statement.{statement}
-use Rattle.state.proofs.each.all_active.Tie as tie
+use Rattle.walks.proofs.all_active.Statement.{statement}
+use Rattle.walks.proofs.all_active.Tie as tie
 
 abbrev Inv-loop : tie.InvT-loop
 Inv-loop from many axes w₀ n₀ w n =

@@ -1,4 +1,4 @@
--- What is asked of each axis that a number means, and what is done to each.
+-- What is asked of each axis on a walk, and what is done to each.
 -- Each question is one of the rules of the crates below.
 use mathlib.Core.Bool.{Bool, not}
 use Prim.Native.Nat.{ℕ, _-_, min}
@@ -6,10 +6,12 @@ use Rattle.axis.specs.Record.{moving}
 use Rattle.axis.specs.Good.{goodAxis}
 use Rattle.reports.specs.Reports.{takes, reported}
 use Rattle.orders.specs.Commands.{demands, axisAfter}
-use Rattle.state.specs.Types.{Axis, Test, Change}
-use Rattle.state.specs.declared.each.Part.{Part}
-use Rattle.state.specs.declared.each.Test.the-variants.{Good, AtRest, Free, Permits, Takes}
-use Rattle.state.specs.declared.each.Change.the-variants.{Obey, Hear}
+use Rattle.axis.specs.declared.Axis.{Axis}
+use Rattle.walks.specs.declared.Part.{Part}
+use Rattle.walks.specs.declared.Test.{Test}
+use Rattle.walks.specs.declared.Test.the-variants.{Good, AtRest, Free, Permits, Takes}
+use Rattle.walks.specs.declared.Change.{Change}
+use Rattle.walks.specs.declared.Change.the-variants.{Obey, Hear}
 
 abbrev pub passes : Test → Axis → Bool
 passes Good a = goodAxis a
@@ -22,6 +24,6 @@ abbrev pub changed : Change → Axis → Axis
 changed (Obey c) a = axisAfter c a
 changed (Hear r) a = reported r a
 
--- the places that k means, of the four that there are
+-- n places from the number k on, of the four that there are
 unfoldable pub partOf : ℕ → ℕ → Part
 partOf n k = let i = min (k - 1) 4 in record { from = i; many = min n (4 - i) }
