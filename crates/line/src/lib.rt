@@ -167,9 +167,9 @@ fn read_axis(s: &[u8], at: usize, n: u64) -> LineRead
     let d = axis_digit(words::first_word(s, at));
     if d < 10 {
         let next = words::past_word(s, at);
-        return LineRead::Addressed(n, d, 2, phrase::read_command(s, next));
+        return LineRead::Addressed(n, d, 2, reader::read_command(s, next));
     }
-    LineRead::Addressed(n, 0, 1, phrase::read_command(s, at))
+    LineRead::Addressed(n, 0, 1, reader::read_command(s, at))
 }
 
 // The words behind a first word that comes to a as an address.
@@ -190,7 +190,7 @@ pub fn read_words(s: &[u8]) -> LineRead
     if starts_number(w) {
         return read_addressed(s, words::past_word(s, 0), number::read_address(w));
     }
-    LineRead::Addressed(0, 0, 0, phrase::read_command(s, 0))
+    LineRead::Addressed(0, 0, 0, reader::read_command(s, 0))
 }
 
 // A line.
