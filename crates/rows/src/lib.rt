@@ -1,18 +1,15 @@
-// Writes the words of a command into a lent buffer, each behind a space.
-// specs/Rows.antt says the words; specs/Phrases.antt parts the commands by their first word, as the code does.
+// A command parted by its first word; a name, a number and a message written into a lent buffer.
+// specs/Rows.antt says the words of each command; specs/Phrases.antt parts the commands, as the code above does: the crates
+// moverows, toolrows and wording.
 ghost use mathlib.Core.Path.{_≡_};
-ghost use mathlib.Core.List.{_++_, _∷_};
-ghost use Rattle.laws.specs.Text.{text};
+ghost use mathlib.Core.List.{_++_};
 ghost use Rattle.laws.proofs.Spaced.{trail};
 ghost use Rattle.number.specs.Decimal.{decimal};
 ghost use Rattle.words.specs.Cutting.{cut};
 ghost use Rattle.command.specs.Settings.{nameOf};
 ghost use Rattle.wire.specs.Wrote.{Wrote};
 ghost use Rattle.rows.specs.Places.{axisPlace, devicePlace, placeOf};
-ghost use Rattle.rows.specs.Phrases.{phraseOf, plainWords, toolWords, phraseWords};
-ghost use Rattle.rows.specs.Rows.{targetWords, commandWords};
 use command::AxisSetting;
-use command::Command;
 use command::DeviceSetting;
 use command::Setting;
 use command::Target;
@@ -25,7 +22,7 @@ use wire::put_text;
 use words::Next;
 
 // The commands that carry nothing and are no tools.
-enum Plain {
+pub enum Plain {
     Nothing,
     Home,
     Stop,
@@ -34,7 +31,7 @@ enum Plain {
     WarningsClear,
 }
 
-enum Tool {
+pub enum Tool {
     Storepos(Number),
     StoreposAt(Number, Position),
     StoreposCurrent(Number),
@@ -45,7 +42,7 @@ enum Tool {
 }
 
 // A command by its first word.
-enum Phrase {
+pub enum Phrase {
     OfPlain(Plain),
     MoveTo(Target),
     MoveVel(Speed),
@@ -94,7 +91,7 @@ fn place_of(s: Setting) -> usize
 }
 
 // A text, and a setting's name behind it.
-fn put_setting(buf: &mut [u8], at: usize, t: &[u8], s: Setting) -> usize
+pub fn put_setting(buf: &mut [u8], at: usize, t: &[u8], s: Setting) -> usize
     ensures { λ r. ⌜ Wrote (now (buf .entry)) at (now (t .entry) ++ nameOf s) (now (buf .exit)) r ⌝ }
 {
     let next = put_text(buf, at, t);
@@ -106,7 +103,7 @@ fn put_setting(buf: &mut [u8], at: usize, t: &[u8], s: Setting) -> usize
 }
 
 // A text, and a number behind it.
-fn put_numbered(buf: &mut [u8], at: usize, t: &[u8], n: Number) -> usize
+pub fn put_numbered(buf: &mut [u8], at: usize, t: &[u8], n: Number) -> usize
     ensures { λ r. ⌜ Wrote (now (buf .entry)) at (now (t .entry) ++ decimal (n .0)) (now (buf .exit)) r ⌝ }
 {
     let next = put_text(buf, at, t);
@@ -114,7 +111,7 @@ fn put_numbered(buf: &mut [u8], at: usize, t: &[u8], n: Number) -> usize
 }
 
 // Each word of a message behind a space.
-fn put_message(buf: &mut [u8], at: usize, message: &[u8]) -> usize
+pub fn put_message(buf: &mut [u8], at: usize, message: &[u8]) -> usize
     ensures { λ r. ⌜ Wrote (now (buf .entry)) at (trail (cut (now (message .entry)))) (now (buf .exit)) r ⌝ }
 {
     let mut next = at;
@@ -132,103 +129,4 @@ fn put_message(buf: &mut [u8], at: usize, message: &[u8]) -> usize
         }
     }
     next
-}
-
-fn put_target(buf: &mut [u8], at: usize, t: Target) -> usize
-    ensures { λ r. ⌜ Wrote (now (buf .entry)) at (trail (text "move" ∷ targetWords t)) (now (buf .exit)) r ⌝ }
-{
-    match t {
-        Target::Abs(p) => put_numbered(buf, at, b" move abs ", p.number()),
-        Target::Rel(p) => put_numbered(buf, at, b" move rel ", p.number()),
-        Target::Min => put_text(buf, at, b" move min"),
-        Target::Max => put_text(buf, at, b" move max"),
-        Target::Stored(n) => put_numbered(buf, at, b" move stored ", n),
-    }
-}
-
-fn put_plain(buf: &mut [u8], at: usize, p: Plain) -> usize
-    ensures { λ r. ⌜ Wrote (now (buf .entry)) at (trail (plainWords p)) (now (buf .exit)) r ⌝ }
-{
-    match p {
-        Plain::Nothing => at,
-        Plain::Home => put_text(buf, at, b" home"),
-        Plain::Stop => put_text(buf, at, b" stop"),
-        Plain::Estop => put_text(buf, at, b" estop"),
-        Plain::Warnings => put_text(buf, at, b" warnings"),
-        Plain::WarningsClear => put_text(buf, at, b" warnings clear"),
-    }
-}
-
-// The words behind `tools`.
-fn put_tool(buf: &mut [u8], at: usize, t: Tool, message: &[u8]) -> usize
-    ensures { λ r. ⌜ Wrote (now (buf .entry)) at (trail (toolWords t (cut (now (message .entry))))) (now (buf .exit)) r ⌝ }
-{
-    match t {
-        Tool::Storepos(n) => put_numbered(buf, at, b" storepos ", n),
-        Tool::StoreposAt(n, p) => {
-            let next = put_numbered(buf, at, b" storepos ", n);
-            put_numbered(buf, next, b" ", p.number())
-        }
-        Tool::StoreposCurrent(n) => {
-            let next = put_numbered(buf, at, b" storepos ", n);
-            put_text(buf, next, b" current")
-        }
-        Tool::ParkingState => put_text(buf, at, b" parking state"),
-        Tool::Park => put_text(buf, at, b" parking park"),
-        Tool::Unpark => put_text(buf, at, b" parking unpark"),
-        Tool::Echo => {
-            let next = put_text(buf, at, b" echo");
-            put_message(buf, next, message)
-        }
-    }
-}
-
-fn put_phrase(buf: &mut [u8], at: usize, p: Phrase, message: &[u8]) -> usize
-    ensures { λ r. ⌜ Wrote (now (buf .entry)) at (trail (phraseWords p (cut (now (message .entry))))) (now (buf .exit)) r ⌝ }
-{
-    match p {
-        Phrase::OfPlain(q) => put_plain(buf, at, q),
-        Phrase::MoveTo(t) => put_target(buf, at, t),
-        Phrase::MoveVel(v) => put_numbered(buf, at, b" move vel ", v.number()),
-        Phrase::Get(s) => put_setting(buf, at, b" get ", s),
-        Phrase::Set(s, n) => {
-            let next = put_setting(buf, at, b" set ", s);
-            put_numbered(buf, next, b" ", n)
-        }
-        Phrase::OfTool(t) => {
-            let next = put_text(buf, at, b" tools");
-            put_tool(buf, next, t, message)
-        }
-    }
-}
-
-fn phrase_of(c: Command) -> Phrase
-    ensures { λ r. ⌜ r ≡ phraseOf c ⌝ }
-{
-    match c {
-        Command::Nothing => Phrase::OfPlain(Plain::Nothing),
-        Command::Home => Phrase::OfPlain(Plain::Home),
-        Command::Stop => Phrase::OfPlain(Plain::Stop),
-        Command::Estop => Phrase::OfPlain(Plain::Estop),
-        Command::MoveTo(t) => Phrase::MoveTo(t),
-        Command::MoveVel(v) => Phrase::MoveVel(v),
-        Command::Get(s) => Phrase::Get(s),
-        Command::Set(s, n) => Phrase::Set(s, n),
-        Command::Storepos(n) => Phrase::OfTool(Tool::Storepos(n)),
-        Command::StoreposAt(n, p) => Phrase::OfTool(Tool::StoreposAt(n, p)),
-        Command::StoreposCurrent(n) => Phrase::OfTool(Tool::StoreposCurrent(n)),
-        Command::Warnings => Phrase::OfPlain(Plain::Warnings),
-        Command::WarningsClear => Phrase::OfPlain(Plain::WarningsClear),
-        Command::ParkingState => Phrase::OfTool(Tool::ParkingState),
-        Command::Park => Phrase::OfTool(Tool::Park),
-        Command::Unpark => Phrase::OfTool(Tool::Unpark),
-        Command::Echo => Phrase::OfTool(Tool::Echo),
-    }
-}
-
-// Each word of a command behind a space; those of an echo are the message's.
-pub fn put_command(buf: &mut [u8], at: usize, c: Command, message: &[u8]) -> usize
-    ensures { λ r. ⌜ Wrote (now (buf .entry)) at (trail (commandWords c (cut (now (message .entry))))) (now (buf .exit)) r ⌝ }
-{
-    put_phrase(buf, at, phrase_of(c), message)
 }

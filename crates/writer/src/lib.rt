@@ -9,12 +9,12 @@ ghost use Rattle.wire.specs.Wrote.{Wrote};
 ghost use Rattle.host.specs.Reading.{dataByte};
 ghost use Rattle.writer.specs.Writing.{lineWords, lineEnd, lineText, unfit, unspellable, outcome, writeLine};
 use command::Command;
-use rows::put_command;
 use wire::put_byte;
 use wire::put_number;
 use wire::put_pair;
 use wire::put_text;
 use wire::put_two;
+use wording::put_command;
 
 // A refusal's number and length 0, or 0 and the line's length.
 pub struct Written {

@@ -1,12 +1,12 @@
--- `rows::put_tool` meets its contract: the words of each row.
+-- `toolrows::put_tool` meets its contract: the words of each row.
 -- Assumes nothing.
 use mathlib.Core.List.{append-nil}
 use Rattle.laws.specs.Text.{text}
 use Rattle.laws.proofs.Spaced.{trail}
 use Rattle.wire.proofs.Wrote.{_▸_}
 use borrow.Author.Needs.{needs}
-use Rattle.rows.proofs.put_tool.Statement.{statement}
-use Rattle.rows.proofs.put_tool.Tie as tie
+use Rattle.toolrows.proofs.put_tool.Statement.{statement}
+use Rattle.toolrows.proofs.put_tool.Tie as tie
 
 enum-known-t : tie.Need-enum-known-t
 enum-known-t c = search needs

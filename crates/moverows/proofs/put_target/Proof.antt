@@ -1,11 +1,11 @@
--- `rows::put_target` meets its contract: the words of each target.
+-- `moverows::put_target` meets its contract: the words of each target.
 -- Assumes nothing.
 use mathlib.Core.List.{append-nil}
 use Rattle.laws.specs.Text.{text}
 use Rattle.laws.proofs.Spaced.{trail}
 use borrow.Author.Needs.{needs}
-use Rattle.rows.proofs.put_target.Statement.{statement}
-use Rattle.rows.proofs.put_target.Tie as tie
+use Rattle.moverows.proofs.put_target.Statement.{statement}
+use Rattle.moverows.proofs.put_target.Tie as tie
 
 enum-known-t : tie.Need-enum-known-t
 enum-known-t c = search needs

@@ -1,9 +1,9 @@
--- `rows::put_command` meets its contract: a phrase has the words of its command.
+-- `wording::put_command` meets its contract: a phrase has the words of its command.
 -- Assumes nothing.
 use Rattle.rows.proofs.Phrases.{phrase-words}
 use borrow.Author.Needs.{needs}
-use Rattle.rows.proofs.put_command.Statement.{statement}
-use Rattle.rows.proofs.put_command.Tie as tie
+use Rattle.wording.proofs.put_command.Statement.{statement}
+use Rattle.wording.proofs.put_command.Tie as tie
 
 phrase-of-requires : tie.Need-phrase-of-requires
 phrase-of-requires c κs = search needs

@@ -1,12 +1,12 @@
--- `rows::put_phrase` meets its contract: the words of each kind of phrase.
+-- `wording::put_phrase` meets its contract: the words of each kind of phrase.
 -- Assumes nothing.
 use mathlib.Core.List.{append-nil}
 use Rattle.laws.specs.Text.{text}
 use Rattle.laws.proofs.Spaced.{trail}
 use Rattle.wire.proofs.Wrote.{_▸_}
 use borrow.Author.Needs.{needs}
-use Rattle.rows.proofs.put_phrase.Statement.{statement}
-use Rattle.rows.proofs.put_phrase.Tie as tie
+use Rattle.wording.proofs.put_phrase.Statement.{statement}
+use Rattle.wording.proofs.put_phrase.Tie as tie
 
 enum-known-p : tie.Need-enum-known-p
 enum-known-p c = search needs

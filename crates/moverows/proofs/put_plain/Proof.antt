@@ -1,11 +1,11 @@
--- `rows::put_plain` meets its contract: the words of each row.
+-- `moverows::put_plain` meets its contract: the words of each row.
 -- Assumes nothing.
 use Rattle.laws.specs.Text.{text}
 use Rattle.laws.proofs.Spaced.{trail}
 use Rattle.wire.proofs.Wrote.{wrote-none}
 use borrow.Author.Needs.{needs}
-use Rattle.rows.proofs.put_plain.Statement.{statement}
-use Rattle.rows.proofs.put_plain.Tie as tie
+use Rattle.moverows.proofs.put_plain.Statement.{statement}
+use Rattle.moverows.proofs.put_plain.Tie as tie
 
 enum-told : tie.Need-enum-told
 enum-told c = search needs

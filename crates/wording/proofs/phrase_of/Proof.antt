@@ -1,9 +1,9 @@
--- `rows::phrase_of` meets its contract: each row of the table.
+-- `wording::phrase_of` meets its contract: each row of the table.
 -- Assumes nothing.
 use mathlib.Core.Path.{refl}
 use borrow.Author.Needs.{needs}
-use Rattle.rows.proofs.phrase_of.Statement.{statement}
-use Rattle.rows.proofs.phrase_of.Tie as tie
+use Rattle.wording.proofs.phrase_of.Statement.{statement}
+use Rattle.wording.proofs.phrase_of.Tie as tie
 
 enum-told : tie.Need-enum-told
 enum-told c = search needs
