@@ -1,9 +1,9 @@
--- `host::byte_at` meets its contract: there is no byte beyond the end.
+-- `fields::byte_at` meets its contract: there is no byte beyond the end.
 -- Assumes nothing.
 use Rattle.host.proofs.Parts.{past-end}
 use borrow.Author.Needs.{needs}
-use Rattle.host.proofs.byte_at.Statement.{statement}
-use Rattle.host.proofs.byte_at.Tie as tie
+use Rattle.fields.proofs.byte_at.Statement.{statement}
+use Rattle.fields.proofs.byte_at.Tie as tie
 
 shared-slice-read-result : tie.Need-shared-slice-read-result
 shared-slice-read-result c = search needs

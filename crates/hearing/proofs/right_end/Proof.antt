@@ -1,10 +1,10 @@
--- `host::right_end` meets its contract: its four tests are the rule's.
+-- `hearing::right_end` meets its contract: its four tests are the rule's.
 -- Assumes nothing.
 use Rattle.laws.specs.Text.{text}
 use Rattle.host.specs.Reading.{rightEnd}
 use borrow.Author.Needs.{needs}
-use Rattle.host.proofs.right_end.Statement.{statement}
-use Rattle.host.proofs.right_end.Tie as tie
+use Rattle.hearing.proofs.right_end.Statement.{statement}
+use Rattle.hearing.proofs.right_end.Tie as tie
 
 slice-aggregate-same-bytes : tie.Need-slice-aggregate-same-bytes
 slice-aggregate-same-bytes c = search needs

@@ -1,9 +1,9 @@
--- `host::rest` meets its contract: beyond the end nothing is left.
+-- `fields::rest` meets its contract: beyond the end nothing is left.
 -- Assumes nothing.
 use Rattle.host.proofs.Parts.{rest-is}
 use borrow.Author.Needs.{needs}
-use Rattle.host.proofs.rest.Statement.{statement}
-use Rattle.host.proofs.rest.Tie as tie
+use Rattle.fields.proofs.rest.Statement.{statement}
+use Rattle.fields.proofs.rest.Tie as tie
 
 lesser-requires : tie.Need-lesser-requires
 lesser-requires c κs = search needs

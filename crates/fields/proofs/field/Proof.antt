@@ -1,11 +1,11 @@
--- `host::field` meets its contract: the front of what is left.
+-- `fields::field` meets its contract: the front of what is left.
 -- Assumes nothing.
 use native.Mathlib.Omega.{arith}
 use lib.ListN.{length-take}
 use Rattle.host.proofs.Parts.{front-is}
 use borrow.Author.Needs.{needs}
-use Rattle.host.proofs.field.Statement.{statement}
-use Rattle.host.proofs.field.Tie as tie
+use Rattle.fields.proofs.field.Statement.{statement}
+use Rattle.fields.proofs.field.Tie as tie
 
 rest-requires : tie.Need-rest-requires
 rest-requires c κs = search needs

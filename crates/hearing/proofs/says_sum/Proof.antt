@@ -1,9 +1,9 @@
--- `host::says_sum` meets its contract: a pair that is none says no sum.
+-- `hearing::says_sum` meets its contract: a pair that is none says no sum.
 -- Assumes nothing.
 use Rattle.host.proofs.Parts.{sum-said}
 use borrow.Author.Needs.{needs}
-use Rattle.host.proofs.says_sum.Statement.{statement}
-use Rattle.host.proofs.says_sum.Tie as tie
+use Rattle.hearing.proofs.says_sum.Statement.{statement}
+use Rattle.hearing.proofs.says_sum.Tie as tie
 
 enum-known-p : tie.Need-enum-known-p
 enum-known-p c = search needs

@@ -1,13 +1,13 @@
--- `host::read_head` meets its contract: each field stands at its place, and the code's lists of words are the rule's.
+-- `fields::read_head` meets its contract: each field stands at its place, and the code's lists of words are the rule's.
 -- Assumes nothing.
 use Rattle.laws.specs.Text.{text}
 use Rattle.words.specs.Cutting.{cut, isSpace, noSpace, grow}
 use Rattle.flags.specs.Flags.{warningNames}
 use Rattle.host.specs.Reading.{verdicts, statuses, warnings}
 use Rattle.host.proofs.Heads.{digit-is, word-is, head-is}
 use borrow.Author.Needs.{needs}
-use Rattle.host.proofs.read_head.Statement.{statement}
-use Rattle.host.proofs.read_head.Tie as tie
+use Rattle.fields.proofs.read_head.Statement.{statement}
+use Rattle.fields.proofs.read_head.Tie as tie
 
 byte-at-requires : tie.Need-byte-at-requires
 byte-at-requires c κs = search needs

@@ -1,10 +1,10 @@
--- `host::is_framed` meets its contract: its tests are the rule's.
+-- `hearing::is_framed` meets its contract: its tests are the rule's.
 -- Assumes nothing.
 use Rattle.laws.specs.Text.{text}
 use Rattle.host.specs.Reading.{framed}
 use borrow.Author.Needs.{needs}
-use Rattle.host.proofs.is_framed.Statement.{statement}
-use Rattle.host.proofs.is_framed.Tie as tie
+use Rattle.hearing.proofs.is_framed.Statement.{statement}
+use Rattle.hearing.proofs.is_framed.Tie as tie
 
 is-marked-requires : tie.Need-is-marked-requires
 is-marked-requires c κs = search needs

@@ -1,10 +1,10 @@
--- `host::is_marked` meets its contract: its six tests are the rule's.
+-- `fields::is_marked` meets its contract: its six tests are the rule's.
 -- Assumes nothing.
 use Rattle.laws.specs.Text.{text}
 use Rattle.host.specs.Reading.{marked}
 use borrow.Author.Needs.{needs}
-use Rattle.host.proofs.is_marked.Statement.{statement}
-use Rattle.host.proofs.is_marked.Tie as tie
+use Rattle.fields.proofs.is_marked.Statement.{statement}
+use Rattle.fields.proofs.is_marked.Tie as tie
 
 slice-aggregate-stands-at : tie.Need-slice-aggregate-stands-at
 slice-aggregate-stands-at c = search needs

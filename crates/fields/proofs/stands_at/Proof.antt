@@ -1,9 +1,9 @@
--- `host::stands_at` meets its contract: it compares as many bytes as the text has.
+-- `fields::stands_at` meets its contract: it compares as many bytes as the text has.
 -- Assumes nothing.
 use Rattle.host.specs.Reading.{field, stands}
 use borrow.Author.Needs.{needs}
-use Rattle.host.proofs.stands_at.Statement.{statement}
-use Rattle.host.proofs.stands_at.Tie as tie
+use Rattle.fields.proofs.stands_at.Statement.{statement}
+use Rattle.fields.proofs.stands_at.Tie as tie
 
 field-requires : tie.Need-field-requires
 field-requires c κs = search needs

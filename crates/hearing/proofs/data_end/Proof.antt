@@ -1,4 +1,4 @@
--- `host::data_end` meets its contract: what is passed and what is left of the data make up the whole.
+-- `hearing::data_end` meets its contract: what is passed and what is left of the data make up the whole.
 -- Assumes nothing.
 use mathlib.Core.Path.{_≡_, refl, sym, _∙_}
 use Prim.Native.Nat.{_+_, _-_}
@@ -6,10 +6,10 @@ use native.Mathlib.Omega.{arith}
 use lib.ListN.{length, drop}
 use Rattle.laws.specs.Lists.{span}
 use Rattle.laws.proofs.Span.{passed, stopped, ended}
 use Rattle.host.specs.Reading.{dataByte, dataLength}
 use borrow.Author.Needs.{needs}
-use Rattle.host.proofs.data_end.Statement.{statement}
-use Rattle.host.proofs.data_end.Tie as tie
+use Rattle.hearing.proofs.data_end.Statement.{statement}
+use Rattle.hearing.proofs.data_end.Tie as tie
 
 abbrev Inv-loop : tie.InvT-loop
 Inv-loop line i₀ i = i + span dataByte (drop i line) ≡ 17 + span dataByte (drop 17 line)

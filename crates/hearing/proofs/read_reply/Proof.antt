@@ -1,9 +1,9 @@
--- `host::read_reply` meets its contract: too long a line, a reply, or none.
+-- `hearing::read_reply` meets its contract: too long a line, a reply, or none.
 -- Assumes nothing.
 use Rattle.host.proofs.Answers.{too-long, is-reply, no-reply}
 use borrow.Author.Needs.{needs}
-use Rattle.host.proofs.read_reply.Statement.{statement}
-use Rattle.host.proofs.read_reply.Tie as tie
+use Rattle.hearing.proofs.read_reply.Statement.{statement}
+use Rattle.hearing.proofs.read_reply.Tie as tie
 
 returns : tie.Need-returns
 returns c = too-long _ (c .if1 .taken)

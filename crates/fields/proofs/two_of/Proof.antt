@@ -1,9 +1,9 @@
--- `host::two_of` meets its contract: two digits stay below 100.
+-- `fields::two_of` meets its contract: two digits stay below 100.
 -- Assumes nothing.
 use native.Mathlib.Omega.{arith}
 use Rattle.host.proofs.Parts.{both-digits, two-yes, two-no}
-use Rattle.host.proofs.two_of.Statement.{statement}
-use Rattle.host.proofs.two_of.Tie as tie
+use Rattle.fields.proofs.two_of.Statement.{statement}
+use Rattle.fields.proofs.two_of.Tie as tie
 
 mul-result : tie.Need-mul-result
 mul-result c = omega (arith, both-digits (c .before .args .tens) (c .before .args .ones) (c .if1 .taken))
