@@ -1,2 +1,2 @@
-pub mod Parts
 pub mod Turns
+pub mod Room

@@ -5,13 +5,13 @@ use Prim.Native.Nat.{_-_}
 use native.Mathlib.Omega.{arith}
 use lib.ListN.{length}
 use Rattle.wire.proofs.Wrote.{wrote-length}
-use Rattle.session.proofs.Parts.{part-past, part-inside}
+use Rattle.parts.proofs.Parts.{part-past, part-inside}
 use Rattle.session.proofs.Turns.{Running, running-first, running-more, running-end}
 use Rattle.session.proofs.run_parts.Statement.{statement}
 use Rattle.session.proofs.run_parts.Tie as tie
 use Rattle.session.proofs.run_parts.Reads as reads
 use Rattle.session.proofs.run_parts.Lts as lts
-use Rattle.session.proofs.part_end.Reads as part-end-reads
+use Rattle.parts.proofs.part_end.Reads as part-end-reads
 use Rattle.session.proofs.turn.Reads as turn-reads
 
 abbrev Inv-loop : tie.InvT-loop

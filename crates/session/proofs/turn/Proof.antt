@@ -6,16 +6,12 @@ use Rattle.session.proofs.turn.Statement.{statement}
 use Rattle.session.proofs.turn.Tie as tie
 use Rattle.session.proofs.turn.Reads as reads
 use Rattle.session.proofs.turn.Lts as lts
-use Rattle.reportline.proofs.read_report.Reads as read-report-reads
-use Rattle.session.proofs.is_report.Reads as is-report-reads
+use Rattle.parts.proofs.is_report.Reads as is-report-reads
 use Rattle.session.proofs.line_turn.Reads as line-turn-reads
 use Rattle.session.proofs.report_turn.Reads as report-turn-reads
 
 is-report-requires : tie.Need-is-report-requires
 is-report-requires c κs = search needs
-
-read-report-requires : tie.Need-read-report-requires
-read-report-requires c κs = search needs
 
 report-turn-requires : tie.Need-report-turn-requires
 report-turn-requires c κs = search needs
@@ -28,8 +24,8 @@ same-length c = search needs
 
 returns : tie.Need-returns
 returns c =
-    let read = c .before .before .before .before in
-    turn-report _ _ (read .before .before .is-report .ensures) (read .before .if1 .taken) (read .read-report .ensures) (c .before .before .report-turn .ensures)
+    let test = c .before .before .before .before in
+    turn-report _ _ (test .before .is-report .ensures) (test .if1 .taken) (c .before .before .report-turn .ensures)
 
 same-length-2 : tie.Need-same-length-2
 same-length-2 c = search needs
@@ -44,7 +40,6 @@ turn-spec =
     tie.close
     (tie.spec
     is-report-requires
-    read-report-requires
     report-turn-requires
     line-turn-requires
     same-length

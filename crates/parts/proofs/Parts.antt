@@ -12,7 +12,7 @@ use lib.Seq.{drop-cons, drop-drop}
 use borrow.Author.Tests.{eq-eqb, ne-eqb}
 use Rattle.laws.specs.Text.{LF}
 use Rattle.words.specs.Cutting.{grow}
-use Rattle.session.specs.Parts.{parts, firstPart}
+use Rattle.parts.specs.Parts.{parts, firstPart}
 
 -- a part ends with its LF
 part-lf : (c : ℕ) (s : List ℕ) → c ≡ 10 → firstPart (c ∷ s) ≡ 1

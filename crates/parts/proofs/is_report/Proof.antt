@@ -1,11 +1,11 @@
--- `session::is_report` meets its contract.
+-- `parts::is_report` meets its contract.
 -- Assumes nothing.
-use Rattle.session.proofs.Turns.{report-none, report-first}
+use Rattle.parts.proofs.Prints.{report-none, report-first}
 use borrow.Author.Needs.{needs}
-use Rattle.session.proofs.is_report.Statement.{statement}
-use Rattle.session.proofs.is_report.Tie as tie
-use Rattle.session.proofs.is_report.Reads as reads
-use Rattle.session.proofs.is_report.Lts as lts
+use Rattle.parts.proofs.is_report.Statement.{statement}
+use Rattle.parts.proofs.is_report.Tie as tie
+use Rattle.parts.proofs.is_report.Reads as reads
+use Rattle.parts.proofs.is_report.Lts as lts
 
 returns : tie.Need-returns
 returns c = report-none _ (c .if1 .taken)

@@ -1,15 +1,15 @@
--- `session::part_end` meets its contract. Invariant: the part from i on ends where the part from `at` on ends.
+-- `parts::part_end` meets its contract. Invariant: the part from i on ends where the part from `at` on ends.
 -- Assumes nothing.
 use mathlib.Core.Path.{_≡_, refl, sym, _∙_}
 use Prim.Native.Nat.{_+_, _-_}
 use native.Mathlib.Omega.{arith}
 use lib.ListN.{length, drop}
-use Rattle.session.specs.Parts.{firstPart}
-use Rattle.session.proofs.Parts.{part-stop, part-on, part-end}
-use Rattle.session.proofs.part_end.Statement.{statement}
-use Rattle.session.proofs.part_end.Tie as tie
-use Rattle.session.proofs.part_end.Reads as reads
-use Rattle.session.proofs.part_end.Lts as lts
+use Rattle.parts.specs.Parts.{firstPart}
+use Rattle.parts.proofs.Parts.{part-stop, part-on, part-end}
+use Rattle.parts.proofs.part_end.Statement.{statement}
+use Rattle.parts.proofs.part_end.Tie as tie
+use Rattle.parts.proofs.part_end.Reads as reads
+use Rattle.parts.proofs.part_end.Lts as lts
 
 abbrev Inv-loop : tie.InvT-loop
 Inv-loop s at i₀ i = i + firstPart (drop i s) ≡ at + firstPart (drop at s)

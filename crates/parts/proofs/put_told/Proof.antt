@@ -1,13 +1,13 @@
--- `session::put_told` meets its contract: name, number and LF, one behind the other.
+-- `parts::put_told` meets its contract: name, number and LF, one behind the other.
 -- Assumes nothing.
 use Rattle.laws.specs.Text.{text}
 use Rattle.wire.proofs.Wrote.{_▸_}
-use Rattle.session.specs.Bench.{told}
+use Rattle.parts.specs.Prints.{told}
 use borrow.Author.Needs.{needs}
-use Rattle.session.proofs.put_told.Statement.{statement}
-use Rattle.session.proofs.put_told.Tie as tie
-use Rattle.session.proofs.put_told.Reads as reads
-use Rattle.session.proofs.put_told.Lts as lts
+use Rattle.parts.proofs.put_told.Statement.{statement}
+use Rattle.parts.proofs.put_told.Tie as tie
+use Rattle.parts.proofs.put_told.Reads as reads
+use Rattle.parts.proofs.put_told.Lts as lts
 use Rattle.wire.proofs.put_byte.Reads as put-byte-reads
 use Rattle.wire.proofs.put_number.Reads as put-number-reads
 use Rattle.wire.proofs.put_text.Reads as put-text-reads

@@ -1,0 +1,39 @@
+-- `replay::main` meets its contract: the loop ends after the last session.
+-- Assumes nothing.
+use borrow.Author.Needs.{needs}
+use Prim.Native.Nat.{_-_, _≤_}
+use native.Mathlib.Omega.{arith}
+use Rattle.replay.proofs.main.Statement.{statement}
+use Rattle.replay.proofs.main.Tie as tie
+use Rattle.replay.proofs.main.Reads as reads
+use Rattle.replay.proofs.main.Lts as lts
+use Rattle.replay.proofs.replay.Reads as replay-reads
+
+abbrev Inv-loop : tie.InvT-loop
+Inv-loop k₀ k = k ≤ 27
+
+abbrev μ-loop : tie.MeasureT-loop
+μ-loop k₀ k = 27 - k
+
+loop-holds : tie.Need-loop-holds Inv-loop μ-loop
+loop-holds c = omega arith
+
+replay-requires : tie.Need-replay-requires Inv-loop μ-loop
+replay-requires c κs = search needs
+
+add-k : tie.Need-add-k Inv-loop μ-loop
+add-k c = omega arith
+
+loop-less : tie.Need-loop-less Inv-loop μ-loop
+loop-less c = omega arith
+
+loop-again : tie.Need-loop-again Inv-loop μ-loop
+loop-again c = omega arith
+
+returns : tie.Need-returns Inv-loop μ-loop
+returns c = search needs
+
+pub main-spec : {M : Type 1} → statement M
+main-spec =
+    tie.close
+    (tie.spec Inv-loop μ-loop loop-holds replay-requires add-k loop-less loop-again returns)

@@ -1,0 +1,105 @@
+-- What bench prints always has room in its buffer of 96 times 4,096 bytes: a part has a byte at least and prints 96 at most.
+-- So nothing that it prints is ever cut. Assumes nothing.
+use mathlib.Core.Path.{_≡_, refl, sym, _∙_}
+use mathlib.Core.Bool.{Bool, true, false, cond}
+use mathlib.Core.List.{List, [], _∷_, _++_}
+use Prim.Native.Nat.{ℕ, suc, _+_, _*_, _≤_, _<_}
+use native.Mathlib.Omega.{arith}
+use lib.Dec.{eqb}
+use lib.ListN.{length, take, replicate, length-append, length-take}
+use borrow.Author.Tests.{eqb-true}
+use Rattle.laws.specs.Text.{LF, text}
+use Rattle.laws.proofs.Each.{none, more}
+use Rattle.laws.proofs.Refusals.{at-most}
+use Rattle.units.specs.Units.{place}
+use Rattle.number.specs.Decimal.{digits}
+use Rattle.number.proofs.Decimal.{digits-length}
+use Rattle.words.specs.Cutting.{grow}
+use Rattle.line.specs.Reading.{readLine}
+use Rattle.state.specs.declared.Device.{Device}
+use Rattle.reports.specs.declared.Report.{Report as Motor}
+use Rattle.reports.specs.Reports.{reportOf}
+use Rattle.device.specs.Reports as Device
+use Rattle.data.specs.Data.{refusalName}
+use Rattle.reply.specs.Reply.{reply}
+use Rattle.carriage.specs.Step.{Stepped, silent, written, replyOf, rejected, accepted, silence, step}
+use Rattle.carriage.specs.Report as Report
+use Rattle.carriage.proofs.Demands.{every-answer}
+use Rattle.carriage.proofs.Room.{reply-at-most-96, silence-small}
+use Rattle.reportline.specs.declared.ReportRead.{ReportRead}
+use Rattle.reportline.specs.declared.ReportRead.the-variants.{Report, Misspelt}
+use Rattle.reportline.specs.Reading.{readReport}
+use Rattle.parts.specs.Parts.{parts}
+use Rattle.parts.specs.Prints.{isReport, told, answered}
+use Rattle.session.specs.Bench.{heard, reportTurn, lineTurn, turn, turns, benchDevice, bench}
+
+told-short : (name : List ℕ) (n : ℕ) → length name ≤ 7 → n < 100 → length (told name n) ≤ 96
+unfolding told text
+told-short name n h k = rw (length-append, length-append) (omega (arith, digits-length 1 n k))
+
+-- ---- a report
+refusal-small : (d : Device) (k : ℕ) (r : Motor) → Device.reportRefusal d k r ≤ 22
+unfolding Device.reportRefusal
+refusal-small d k r = at-most 22 (more (omega arith) (more (omega arith) none))
+
+report-short : (d : Device) (r : ReportRead) → length (reportTurn d r .prints) ≤ 96
+unfolding reportTurn Report.report Device.report text
+report-short d Misspelt = told-short (text "report ") 22 (omega arith) (omega arith)
+report-short d (Report axis kind last) =
+    let n = Device.reportRefusal d (place (axis .0)) (reportOf kind last) in
+    told-short (text "report ") n (omega arith) (omega (arith, refusal-small d (place (axis .0)) (reportOf kind last)))
+
+-- ---- a line
+reply-some : (d : Device) (k : ℕ) (ok : Bool) (words : List ℕ) → 0 < length (replyOf d k ok words)
+unfolding replyOf reply text
+reply-some d k ok words = rw (length-append, length-append) (omega arith)
+
+silent-small : (d : Device) (l b : List ℕ) → step d l b .answer .length ≡ 0 → step d l b .answer .number < 100
+unfolding silent rejected accepted written
+silent-small d l b =
+    every-answer (λ s. s .answer .length ≡ 0 → s .answer .number < 100) d l b (λ h. omega (arith, silence-small d l b))
+    (λ n k g h. absurd (omega (arith, reply-some d k false (refusalName n))))
+    (λ k skip c g e h. omega arith)
+
+line-short : (d : Device) (p : List ℕ) → length (lineTurn d p .prints) ≤ 96
+unfolding lineTurn answered text
+line-short d p = go (eqb (s .answer .length) 0) refl
+  where
+    s : Stepped
+    s = step d p (replicate 96 0)
+
+    go : (t : Bool) → eqb (s .answer .length) 0 ≡ t → length (cond t (told (text "silent ") (s .answer .number)) (take (s .answer .length) (s .buffer))) ≤ 96
+    go true e = told-short (text "silent ") (s .answer .number) (omega arith) (silent-small d p (replicate 96 0) (eqb-true (s .answer .length) 0 e))
+    go false e = rw length-take (omega (arith, reply-at-most-96 d p (replicate 96 0)))
+
+-- ---- the parts, one behind the other
+turn-short : (d : Device) (p : List ℕ) → length (turn d p .prints) ≤ 96
+unfolding turn
+turn-short d p = go (isReport p)
+  where
+    go : (t : Bool) → length (cond t (reportTurn d (readReport p)) (lineTurn d p) .prints) ≤ 96
+    go true = report-short d (readReport p)
+    go false = line-short d p
+
+turns-short : (d : Device) (ps : List (List ℕ)) → length (turns d ps) ≤ 96 * length ps
+unfolding turns
+turns-short d [] = omega arith
+turns-short d (p ∷ ps) = rw length-append (omega (arith, turn-short d p, turns-short (turn d p .next) ps))
+
+grow-few : (c : ℕ) (ps : List (List ℕ)) → length (grow c ps) ≤ suc (length ps)
+unfolding grow
+grow-few c [] = omega arith
+grow-few c (p ∷ ps) = omega arith
+
+parts-few : (s : List ℕ) → length (parts s) ≤ length s
+unfolding parts
+parts-few [] = omega arith
+parts-few (c ∷ s) = go (eqb c LF) (parts-few s)
+  where
+    go : (t : Bool) → length (parts s) ≤ length s → length (cond t ((c ∷ []) ∷ parts s) (grow c (parts s))) ≤ suc (length s)
+    go true ih = omega arith
+    go false ih = omega (arith, grow-few c (parts s))
+
+pub bench-fits : (input : List ℕ) → length (bench input) ≤ 393216
+unfolding bench
+bench-fits input = omega (arith, turns-short benchDevice (parts (take 4096 input)), parts-few (take 4096 input), length-take 4096 input)
