@@ -1,8 +1,8 @@
 // Positions in microsteps, speeds in the protocol's own unit and other numbers, kept apart by their types.
 // Everything that compares, adds or casts signed numbers is in this crate: the crates above pass whole values.
 ghost use mathlib.Core.Path.{_≡_};
-ghost use lib.IntN.{pos, _+ℤ_, negℤ};
-ghost use lib.Signed.{leZ};
+ghost use lib.IntN.{pos, _+ℤ_, negℤ, natAbs};
+ghost use lib.Signed.{leZ, ltZ};
 ghost use mir.Syntax.{w32};
 ghost use mir.Val.{SFits};
 ghost use Rattle.units.specs.Units.{position, speed, number, place, _to_, within, bound};
@@ -59,6 +59,24 @@ impl Number {
         ensures { λ r. ⌜ r ≡ place (self .0) ⌝ }
     {
         if self.0 < 0 { 0 } else { self.0 as usize }
+    }
+
+    pub fn negative(self) -> bool
+        ensures { λ r. ⌜ r ≡ ltZ (self .0) (pos 0) ⌝ }
+    {
+        self.0 < 0
+    }
+
+    // How far the number lies from 0. The lowest number has no opposite in 32 bits.
+    pub fn magnitude(self) -> u64
+        ensures { λ r. ⌜ r ≡ natAbs (self .0) ⌝ }
+    {
+        let wide = self.0 as i64;
+        if wide < 0 {
+            (0 - wide) as u64
+        } else {
+            wide as u64
+        }
     }
 
     pub fn position(self) -> Position

@@ -3,8 +3,6 @@
 ghost use mathlib.Core.Path.{_≡_};
 ghost use mathlib.Core.List.{_∷_, []};
 ghost use Prim.Native.Nat.{_%_};
-ghost use lib.IntN.{pos, natAbs};
-ghost use lib.Signed.{ltZ};
 ghost use Rattle.number.specs.Decimal.{digits, decimal, twoDigits, hexDigit, hexPair};
 ghost use Rattle.wire.specs.Wrote.{Wrote};
 use units::Number;
@@ -46,30 +44,12 @@ pub fn put_number(buf: &mut [u8], at: usize, n: u64) -> usize
     }
 }
 
-fn negative(v: Number) -> bool
-    ensures { λ r. ⌜ r ≡ ltZ (v .0) (pos 0) ⌝ }
-{
-    v.0 < 0
-}
-
-// How far v lies from 0. The lowest number has no opposite in 32 bits.
-fn magnitude(v: Number) -> u64
-    ensures { λ r. ⌜ r ≡ natAbs (v .0) ⌝ }
-{
-    let wide = v.0 as i64;
-    if wide < 0 {
-        (0 - wide) as u64
-    } else {
-        wide as u64
-    }
-}
-
 // "negatives begin with `-`"
 pub fn put_signed(buf: &mut [u8], at: usize, v: Number) -> usize
     ensures { λ r. ⌜ Wrote (now (buf .entry)) at (decimal (v .0)) (now (buf .exit)) r ⌝ }
 {
-    let n = magnitude(v);
-    if negative(v) {
+    let n = v.magnitude();
+    if v.negative() {
         let next = put_byte(buf, at, b'-');
         put_number(buf, next, n)
     } else {
