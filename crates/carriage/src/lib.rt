@@ -128,7 +128,7 @@ fn heard(d: Device, s: &[u8], reply: &mut [u8]) -> Answer
     requires { ⌜ (96 ≤ length (now reply)) × (goodOf d ≡ true) × (length (now s) ≤ 78) ⌝ }
     ensures { λ r. ⌜ Gives (respond d (cut (now (s .entry))) (readWords (cut (now (s .entry)))) (now (reply .entry))) r (now (reply .exit)) ⌝ }
 {
-    match line::read_words(s) {
+    match lineread::read_words(s) {
         LineRead::Silent(n) => silent(d, n),
         LineRead::Addressed(address, axis, skip, w) => {
             if concerns(d, address) {
@@ -151,7 +151,7 @@ pub fn step(d: Device, line: &[u8], reply: &mut [u8]) -> Answer
     if !good {
         return silent(d, 21);
     }
-    match line::read_frame(line) {
+    match frame::read_frame(line) {
         Frame::Refused(n) => silent(d, n),
         Frame::Content(n) => heard(d, &line[1..n + 1], reply),
     }

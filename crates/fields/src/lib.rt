@@ -67,9 +67,9 @@ fn two_of(tens: u64, ones: u64) -> u64
 pub fn read_head(line: &[u8]) -> Head
     ensures { λ r. ⌜ r ≡ headIn (now (line .entry)) ⌝ }
 {
-    let tens = number::digit_value(byte_at(line, 1));
-    let ones = number::digit_value(byte_at(line, 2));
-    let axis = number::digit_value(byte_at(line, 4));
+    let tens = numeral::digit_value(byte_at(line, 1));
+    let ones = numeral::digit_value(byte_at(line, 2));
+    let axis = numeral::digit_value(byte_at(line, 4));
     let verdict = find_word(field(line, 6, 2), b"RJ OK");
     let status = find_word(field(line, 9, 4), b"IDLE BUSY");
     let warning = find_word(field(line, 14, 2), b"-- FD FQ FS FT FB FP FE WR");

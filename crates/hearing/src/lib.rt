@@ -48,7 +48,7 @@ fn right_end(s: &[u8], e: &[u8]) -> bool
     let bare = same_bytes(e, b"\r\n");
     let colon = stands_at(e, 0, b":");
     let footer = same_bytes(rest(e, 3), b"\r\n");
-    let sum = says_sum(s, number::read_pair(byte_at(e, 1), byte_at(e, 2)));
+    let sum = says_sum(s, numread::read_pair(byte_at(e, 1), byte_at(e, 2)));
     bare | (colon & footer & sum)
 }
 

@@ -33,7 +33,7 @@ pub fn one_number(s: &[u8], at: usize, k: Numbered) -> WordsRead
     let next = words::past_word(s, at);
     let v = words::first_word(s, next);
     if v.len() == 0 {
-        return k.made(number::read_number(w));
+        return k.made(numread::read_number(w));
     }
     WordsRead::Refused(11)
 }

@@ -43,9 +43,9 @@ fn report_words(s: &[u8]) -> ReportRead
         return ReportRead::Misspelt;
     }
     numbers(
-        number::read_number(words::first_word(s, axis)),
-        number::read_number(words::first_word(s, kind)),
-        number::read_number(words::first_word(s, last)),
+        numread::read_number(words::first_word(s, axis)),
+        numread::read_number(words::first_word(s, kind)),
+        numread::read_number(words::first_word(s, last)),
     )
 }
 
@@ -53,8 +53,8 @@ fn report_words(s: &[u8]) -> ReportRead
 fn framed(s: &[u8]) -> ReportRead
     ensures { λ r. ⌜ r ≡ framedOf (now (s .entry)) ⌝ }
 {
-    let end = line::printable_len(s);
-    if line::is_footer(&s[end..]) {
+    let end = frame::printable_len(s);
+    if frame::is_footer(&s[end..]) {
         return report_words(&s[..end]);
     }
     ReportRead::Misspelt

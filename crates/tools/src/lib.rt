@@ -18,7 +18,7 @@ fn store_at(n: NumberRead, v: &[u8]) -> WordsRead
 {
     match n {
         NumberRead::Refused(_) => WordsRead::Refused(11),
-        NumberRead::Value(m) => Numbered::StoreAt(m).made(number::read_number(v)),
+        NumberRead::Value(m) => Numbered::StoreAt(m).made(numread::read_number(v)),
     }
 }
 
@@ -26,7 +26,7 @@ fn store_at(n: NumberRead, v: &[u8]) -> WordsRead
 fn read_storepos(s: &[u8], at: usize) -> WordsRead
     ensures { λ r. ⌜ r ≡ readStorepos (cut (drop at (now (s .entry)))) ⌝ }
 {
-    let n = number::read_number(words::first_word(s, at));
+    let n = numread::read_number(words::first_word(s, at));
     let second = words::past_word(s, at);
     let v = words::first_word(s, second);
     if v.len() == 0 {

@@ -11,7 +11,7 @@ use Rattle.carriage.proofs.heard.Lts as lts
 use Rattle.carriage.proofs.addressed.Reads as addressed-reads
 use Rattle.carriage.proofs.concerns.Reads as concerns-reads
 use Rattle.carriage.proofs.silent.Reads as silent-reads
-use Rattle.line.proofs.read_words.Reads as read-words-reads
+use Rattle.lineread.proofs.read_words.Reads as read-words-reads
 
 read-words-requires : tie.Need-read-words-requires
 read-words-requires c κs = search needs

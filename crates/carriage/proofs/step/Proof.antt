@@ -12,7 +12,7 @@ use Rattle.carriage.proofs.step.Reads as reads
 use Rattle.carriage.proofs.step.Lts as lts
 use Rattle.carriage.proofs.heard.Reads as heard-reads
 use Rattle.carriage.proofs.silent.Reads as silent-reads
-use Rattle.line.proofs.read_frame.Reads as read-frame-reads
+use Rattle.frame.proofs.read_frame.Reads as read-frame-reads
 use Rattle.state.proofs.Device.good.Reads as good-reads
 
 silent-requires : tie.Need-silent-requires

@@ -9,7 +9,7 @@ use Rattle.reportline.proofs.report_words.Statement.{statement}
 use Rattle.reportline.proofs.report_words.Tie as tie
 use Rattle.reportline.proofs.report_words.Reads as reads
 use Rattle.reportline.proofs.report_words.Lts as lts
-use Rattle.number.proofs.read_number.Reads as read-number-reads
+use Rattle.numread.proofs.read_number.Reads as read-number-reads
 use Rattle.reportline.proofs.numbers.Reads as numbers-reads
 use Rattle.words.proofs.first_word.Reads as first-word-reads
 use Rattle.words.proofs.past_word.Reads as past-word-reads

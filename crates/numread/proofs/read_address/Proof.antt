@@ -1,0 +1,19 @@
+-- `numread::read_address` meets its contract: it is `unsigned` from the first place on, up to 99.
+-- Assumes nothing.
+use Rattle.number.specs.Reading.{readAddress}
+use borrow.Author.Needs.{needs}
+use Rattle.numread.proofs.read_address.Statement.{statement}
+use Rattle.numread.proofs.read_address.Tie as tie
+use Rattle.numread.proofs.read_address.Reads as reads
+use Rattle.numread.proofs.read_address.Lts as lts
+use Rattle.numeral.proofs.unsigned.Reads as unsigned-reads
+
+unsigned-requires : tie.Need-unsigned-requires
+unsigned-requires c κs = search needs
+
+returns : tie.Need-returns
+unfolding readAddress
+returns c = c .unsigned .ensures
+
+pub read-address-spec : {M : Type 1} → statement M
+read-address-spec = tie.close (tie.spec unsigned-requires returns)
