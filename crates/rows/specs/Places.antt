@@ -1,5 +1,5 @@
 -- The place of each setting in the code's table of names.
--- proofs/Names.antt shows that its name stands there.
+-- proofs/Texts.antt shows that its name stands there.
 use Prim.Native.Nat.{ℕ}
 use Rattle.phrase.specs.Types.{AxisSetting, Pos, LimitMin, LimitMax, MaxSpeed, Accel, DriverCurrentMax, DriverCurrentRun, DriverCurrentHold, DriverDir, EncoderIndexCount, DeviceSetting, CommAddress, CommAlert, CommChecksum, SystemAccess, DeviceId, SystemAxisCount, Setting, OfAxis, OfDevice}
 
