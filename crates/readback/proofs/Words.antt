@@ -103,7 +103,7 @@ plain-of (c ∷ s) t =
     let others = plain-of s (and-right (dataByte c) (all dataByte s) t) in
     ⊎-elim (λ e. rw e (space others)) (λ k. byte (data-is-word c here k) others) (eq-or-ne c 32)
 
-content-words : {s : List ℕ} {ws : List (List ℕ)} → Content s ws → Each Word ws
+pub content-words : {s : List ℕ} {ws : List (List ℕ)} → Content s ws → Each Word ws
 content-words (blank p) = none
 content-words (last p w) = more w none
 content-words (next p w k) = more w (content-words k)
