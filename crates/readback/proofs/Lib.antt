@@ -1,4 +1,5 @@
 pub mod Words
 pub mod Rows
 pub mod ReadsBack
+pub mod WrittenIsSpelled
 pub mod Cases
