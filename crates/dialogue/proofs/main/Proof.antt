@@ -1,0 +1,67 @@
+-- `dialogue::main` ends: 22 commands, one at each turn.
+-- Assumes nothing.
+use borrow.Author.Needs.{needs}
+use Prim.Native.Nat.{_-_, _≤_}
+use native.Mathlib.Omega.{arith}
+use Rattle.dialogue.proofs.main.Statement.{statement}
+use Rattle.dialogue.proofs.main.Tie as tie
+use Rattle.dialogue.proofs.main.Reads as reads
+use Rattle.dialogue.proofs.main.Lts as lts
+use Rattle.dialogue.proofs.ask.Reads as ask-reads
+use Rattle.dialogue.proofs.axis.Reads as axis-reads
+use Rattle.dialogue.proofs.command.Reads as command-reads
+use Rattle.dialogue.proofs.motors.Reads as motors-reads
+use Rattle.state.proofs.Device.new.Reads as new-reads
+
+abbrev Inv-loop : tie.InvT-loop
+Inv-loop d₀ k₀ d k = k ≤ 22
+
+abbrev μ-loop : tie.MeasureT-loop
+μ-loop d₀ k₀ d k = 22 - k
+
+new-requires : tie.Need-new-requires Inv-loop μ-loop
+new-requires c κs = search needs
+
+loop-holds : tie.Need-loop-holds Inv-loop μ-loop
+loop-holds c = omega arith
+
+axis-requires : tie.Need-axis-requires Inv-loop μ-loop
+axis-requires c κs = search needs
+
+command-requires : tie.Need-command-requires Inv-loop μ-loop
+command-requires c κs = search needs
+
+ask-requires : tie.Need-ask-requires Inv-loop μ-loop
+ask-requires c κs = search needs
+
+motors-requires : tie.Need-motors-requires Inv-loop μ-loop
+motors-requires c κs = search needs
+
+add-k : tie.Need-add-k Inv-loop μ-loop
+add-k c = omega arith
+
+loop-less : tie.Need-loop-less Inv-loop μ-loop
+loop-less c = omega arith
+
+loop-again : tie.Need-loop-again Inv-loop μ-loop
+loop-again c = omega arith
+
+returns : tie.Need-returns Inv-loop μ-loop
+returns c = search needs
+
+pub main-spec : {M : Type 1} → statement M
+main-spec =
+    tie.close
+    (tie.spec
+    Inv-loop
+    μ-loop
+    new-requires
+    loop-holds
+    axis-requires
+    command-requires
+    ask-requires
+    motors-requires
+    add-k
+    loop-less
+    loop-again
+    returns)

@@ -1,0 +1,156 @@
+// A host talks to a device: one command of each row of the table, written, obeyed, and its reply read back.
+// Each line printed is the command's line as it was written, with a checksum every other time, and what the host understood.
+use command::AxisSetting;
+use command::Command;
+use command::Setting;
+use command::Target;
+use host::Heard;
+use host::ReplyRead;
+use libc::STDOUT_FILENO;
+use state::Device;
+use units::Number;
+use units::Position;
+use units::Speed;
+
+// The moves; the last is beyond the travel.
+fn target(k: u8) -> Target {
+    match k {
+        2 => Target::Abs(Position(10000)),
+        3 => Target::Rel(Position(2500)),
+        5 => Target::Min,
+        6 => Target::Max,
+        8 => Target::Stored(Number(16)),
+        _ => Target::Abs(Position(305382)),
+    }
+}
+
+fn early(k: u8) -> Command {
+    match k {
+        0 => Command::Nothing,
+        1 => Command::Home,
+        4 => Command::MoveVel(Speed(-153600)),
+        7 => Command::StoreposAt(Number(16), Position(305381)),
+        9 => Command::Stop,
+        10 => Command::Estop,
+        _ => Command::MoveTo(target(k)),
+    }
+}
+
+fn late(k: u8) -> Command {
+    match k {
+        12 => Command::Get(Setting::OfAxis(AxisSetting::MaxSpeed)),
+        13 => Command::Set(Setting::OfAxis(AxisSetting::Pos), Number(777)),
+        14 => Command::Storepos(Number(16)),
+        15 => Command::StoreposCurrent(Number(1)),
+        16 => Command::Warnings,
+        17 => Command::WarningsClear,
+        18 => Command::ParkingState,
+        19 => Command::Park,
+        20 => Command::Unpark,
+        _ => Command::Echo,
+    }
+}
+
+fn command(k: u8) -> Command {
+    if k < 12 { early(k) } else { late(k) }
+}
+
+fn axis(k: u8) -> u64 {
+    match k {
+        2 => 1,
+        3 => 2,
+        4 => 1,
+        11 => 1,
+        13 => 2,
+        _ => 0,
+    }
+}
+
+fn say(text: &[u8]) {
+    io::write_all(STDOUT_FILENO, text);
+}
+
+fn say_number(n: u64) {
+    io::print_decimal(STDOUT_FILENO, n);
+}
+
+fn say_either(yes: bool, a: &[u8], b: &[u8]) {
+    if yes {
+        say(a);
+    } else {
+        say(b);
+    }
+}
+
+// The first n bytes of s, or all of them where there are fewer.
+fn front(s: &[u8], n: usize) -> &[u8] {
+    let size = data::lesser(n, s.len());
+    &s[..size]
+}
+
+// What stands behind the first n bytes of s.
+fn behind(s: &[u8], n: usize) -> &[u8] {
+    let from = data::lesser(n, s.len());
+    &s[from..]
+}
+
+// What a reply says. Its data begins at byte 17.
+fn say_heard(h: Heard, reply: &[u8]) {
+    say(b" => address ");
+    say_number(h.address);
+    say(b", axis ");
+    say_number(h.axis);
+    say_either(h.ok, b": OK, ", b": RJ, ");
+    say_either(h.busy, b"BUSY, ", b"IDLE, ");
+    say(words::nth_word(b"-- FD FQ FS FT FB FP FE WR", h.warning));
+    say(b", data ");
+    say(front(behind(reply, 17), h.length));
+    say(b"\n");
+}
+
+fn say_reply(reply: &[u8]) {
+    match host::read_reply(reply) {
+        ReplyRead::Reply(h) => say_heard(h, reply),
+        ReplyRead::NotReply => say(b" => no reply\n"),
+    }
+}
+
+// The line goes to the device, and its reply comes back.
+fn exchange(d: Device, line: &[u8]) -> Device {
+    let mut reply = [0u8; 96];
+    let a = carriage::step(d, line, &mut reply);
+    let next = a.next;
+    say(front(line, line::printable_len(line)));
+    say_reply(front(&reply, a.length));
+    next
+}
+
+fn ask(d: Device, axis: u64, c: Command, sum: bool) -> Device {
+    let mut line = [0u8; 80];
+    let w = writer::write_command(&mut line, 1, axis, c, b"both  axes are at rest", sum);
+    exchange(d, front(&line, w.length))
+}
+
+fn reported(d: Device, axis: i32, kind: i32, last: i32) -> Device {
+    let o = carriage::report(d, Number(axis), Number(kind), Number(last));
+    o.next
+}
+
+// What the motors report behind a command: both axes at home behind `home`; a stalled axis 2 before `warnings`.
+fn motors(d: Device, k: u8) -> Device {
+    match k {
+        1 => reported(reported(d, 1, 3, 0), 2, 3, 0),
+        15 => reported(d, 2, 4, 2),
+        _ => d,
+    }
+}
+
+fn main() {
+    let mut d = Device::new(Number(1), 2, Number(100));
+    let mut k: u8 = 0;
+    while k < 22 {
+        let next = ask(d, axis(k), command(k), k % 2 == 1);
+        d = motors(next, k);
+        k += 1;
+    }
+}
