@@ -109,7 +109,7 @@ fn say_heard(h: Heard, reply: &[u8]) {
 }
 
 fn say_reply(reply: &[u8]) {
-    match host::read_reply(reply) {
+    match hearing::read_reply(reply) {
         ReplyRead::Reply(h) => say_heard(h, reply),
         ReplyRead::NotReply => say(b" => no reply\n"),
     }
@@ -120,14 +120,14 @@ fn exchange(d: Device, line: &[u8]) -> Device {
     let mut reply = [0u8; 96];
     let a = carriage::step(d, line, &mut reply);
     let next = a.next;
-    say(front(line, line::printable_len(line)));
+    say(front(line, frame::printable_len(line)));
     say_reply(front(&reply, a.length));
     next
 }
 
 fn ask(d: Device, axis: u64, c: Command, sum: bool) -> Device {
     let mut line = [0u8; 80];
-    let w = writer::write_command(&mut line, 1, axis, c, b"both  axes are at rest", sum);
+    let w = sender::write_command(&mut line, 1, axis, c, b"both  axes are at rest", sum);
     exchange(d, front(&line, w.length))
 }
 
