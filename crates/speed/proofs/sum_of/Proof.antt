@@ -2,6 +2,7 @@
 -- Assumes nothing.
 use borrow.Author.Needs.{needs}
 use Prim.Native.Nat.{_-_, _≤_}
+use native.Mathlib.Omega.{arith}
 use lib.ListN.{length}
 use Rattle.speed.proofs.sum_of.Statement.{statement}
 use Rattle.speed.proofs.sum_of.Tie as tie
@@ -21,10 +22,10 @@ shared-slice-read-sum : tie.Need-shared-slice-read-sum Inv-loop μ-loop
 shared-slice-read-sum c = search needs
 
 cast-sum : tie.Need-cast-sum Inv-loop μ-loop
-cast-sum c = search needs
+cast-sum c = omega (arith, c .shared-slice-known .given (c .before .before .loop .i))
 
 add-sum : tie.Need-add-sum Inv-loop μ-loop
-add-sum c = search needs
+add-sum c = omega (arith, c .shared-slice-known .given (c .before .before .loop .i))
 
 add-i : tie.Need-add-i Inv-loop μ-loop
 add-i c = search needs
