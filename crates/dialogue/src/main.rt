@@ -4,6 +4,7 @@ use command::AxisSetting;
 use command::Command;
 use command::Setting;
 use command::Target;
+use fields::field;
 use host::Heard;
 use host::ReplyRead;
 use libc::STDOUT_FILENO;
@@ -82,18 +83,6 @@ fn say_either(yes: bool, a: &[u8], b: &[u8]) {
     }
 }
 
-// The first n bytes of s, or all of them where there are fewer.
-fn front(s: &[u8], n: usize) -> &[u8] {
-    let size = data::lesser(n, s.len());
-    &s[..size]
-}
-
-// What stands behind the first n bytes of s.
-fn behind(s: &[u8], n: usize) -> &[u8] {
-    let from = data::lesser(n, s.len());
-    &s[from..]
-}
-
 // What a reply says. Its data begins at byte 17.
 fn say_heard(h: Heard, reply: &[u8]) {
     say(b" => address ");
@@ -104,7 +93,7 @@ fn say_heard(h: Heard, reply: &[u8]) {
     say_either(h.busy, b"BUSY, ", b"IDLE, ");
     say(words::nth_word(b"-- FD FQ FS FT FB FP FE WR", h.warning));
     say(b", data ");
-    say(front(behind(reply, 17), h.length));
+    say(field(reply, 17, h.length));
     say(b"\n");
 }
 
@@ -120,15 +109,15 @@ fn exchange(d: Device, line: &[u8]) -> Device {
     let mut reply = [0u8; 96];
     let a = carriage::step(d, line, &mut reply);
     let next = a.next;
-    say(front(line, frame::printable_len(line)));
-    say_reply(front(&reply, a.length));
+    say(field(line, 0, frame::printable_len(line)));
+    say_reply(field(&reply, 0, a.length));
     next
 }
 
 fn ask(d: Device, axis: u64, c: Command, sum: bool) -> Device {
     let mut line = [0u8; 80];
     let w = sender::write_command(&mut line, 1, axis, c, b"both  axes are at rest", sum);
-    exchange(d, front(&line, w.length))
+    exchange(d, field(&line, 0, w.length))
 }
 
 fn reported(d: Device, axis: i32, kind: i32, last: i32) -> Device {
@@ -136,7 +125,7 @@ fn reported(d: Device, axis: i32, kind: i32, last: i32) -> Device {
     o.next
 }
 
-// What the motors report behind a command: both axes at home behind `home`; a stalled axis 2 before `warnings`.
+// What the motors report behind a command: both axes are home behind `home`; axis 2 raises FQ before `warnings`.
 fn motors(d: Device, k: u8) -> Device {
     match k {
         1 => reported(reported(d, 1, 3, 0), 2, 3, 0),
