@@ -46,7 +46,7 @@ pub data Rejecting : ℕ → Type 0 where
   parked : Rejecting 15
   status-busy : Rejecting 16
 
--- each of them has its name, and none of them is 0
+-- each of them has its name
 pub name-data : {n : ℕ} → Rejecting n → Data (refusalName n)
 unfolding refusalName nameIn refusals text
 name-data bad-command = one-data (word-of (text "BADCOMMAND") refl)
