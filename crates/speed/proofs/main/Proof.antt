@@ -1,3 +1,7 @@
+-- `speed::main` meets its contract: the header and the line stand inside what was read.
+-- Assumes nothing.
+use native.Mathlib.Omega.{arith}
+use lib.ListN.{length-take}
 use borrow.Author.Needs.{needs}
 use Rattle.speed.proofs.main.Statement.{statement}
 use Rattle.speed.proofs.main.Tie as tie
@@ -8,63 +12,48 @@ use Rattle.reportline.proofs.read_report.Reads as read-report-reads
 use Rattle.speed.proofs.run.Reads as run-reads
 use Rattle.speed.proofs.say.Reads as say-reads
 
--- src/main.rt:71:49
 slice-aggregate-read-full : tie.Need-slice-aggregate-read-full
 slice-aggregate-read-full c = search needs
 
--- src/main.rt:71:9
 read-full-requires : tie.Need-read-full-requires
 read-full-requires c κs = search needs
 
--- src/main.rt:73:9
 say-requires : tie.Need-say-requires
 say-requires c κs = search needs
 
--- src/main.rt:73:9
 returns : tie.Need-returns
 returns c = search needs
 
--- src/main.rt:75:35
 array-share-prefix-input : tie.Need-array-share-prefix-input
 array-share-prefix-input c = search needs
 
--- src/main.rt:75:35
 slice-aggregate-read-report : tie.Need-slice-aggregate-read-report
-slice-aggregate-read-report c = ?
+slice-aggregate-read-report c = simp length-take (omega arith)
 
--- src/main.rt:75:11
 read-report-requires : tie.Need-read-report-requires
 read-report-requires c κs = search needs
 
--- src/main.rt:76:33
 enum-told : tie.Need-enum-told
 enum-told c = search needs
 
--- src/main.rt:76:33
 say-requires-2 : tie.Need-say-requires-2
 say-requires-2 c κs = search needs
 
--- src/main.rt:77:28
 enum-known-repeat : tie.Need-enum-known-repeat
 enum-known-repeat c = search needs
 
--- src/main.rt:77:75
 part-run-start : tie.Need-part-run-start
 part-run-start c = search needs
 
--- src/main.rt:77:75
 part-run-end : tie.Need-part-run-end
 part-run-end c = search needs
 
--- src/main.rt:77:51
 run-requires : tie.Need-run-requires
 run-requires c κs = search needs
 
--- src/main.rt:69:1
 returns-2 : tie.Need-returns-2
 returns-2 c = search needs
 
--- src/main.rt:69:1
 returns-3 : tie.Need-returns-3
 returns-3 c = search needs
 
