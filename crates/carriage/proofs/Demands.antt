@@ -10,6 +10,7 @@ use lib.ListN.{length, take, drop}
 use lib.Seq.{take-at}
 use borrow.Author.Tests.{eqb-true, ne-eqb}
 use Rattle.laws.specs.Refusals.{Refusal, _when_, firstOf}
+use Rattle.laws.proofs.Answers.{one-answer}
 use Rattle.laws.proofs.Bools.{not-false}
 use Rattle.laws.proofs.Refusals.{unmet, below}
 use Rattle.command.specs.declared.Command.{Command}
@@ -27,7 +28,8 @@ use Rattle.device.proofs.GoodStays.{good-stays}
 use Rattle.device.proofs.RefusalKeeps.{accepted-next}
 use Rattle.data.specs.Data.{refusalName}
 use Rattle.shown.specs.Data.{dataOf}
-use Rattle.carriage.specs.Step.{Stepped, silent, written, replyOf, rejected, accepted, obeyed, unread, notMine, addressed, answered, silence, respond, step}
+use Rattle.carriage.specs.declared.Answer.{Answer}
+use Rattle.carriage.specs.Step.{Stepped, Gives, silent, written, replyOf, rejected, accepted, obeyed, unread, notMine, addressed, answered, silence, respond, step}
 
 -- "1 to 5, 20, 21 are silent: length 0, nothing written": and the record stays
 pub record Unchanged (d : Device) (b : List ℕ) (s : Stepped) : Type 0 where
@@ -129,3 +131,7 @@ reply-describes-next d l b =
     let shows : List ℕ = dataOf d k (echoOf c (drop skip (wordsOf l))) c in
     let t : List ℕ = replyOf (next d k c) k true shows in
     record { axis = k; ok = true; words = shows; reply = take-at t (drop (length t) b) (length t) refl })
+
+-- The promise of a step leaves no choice: two results and buffers that meet it are the same.
+pub gives-one : {s : Stepped} {r q : Answer} {b c : List ℕ} → Gives s r b → Gives s q c → (r ≡ q) × (b ≡ c)
+gives-one g h = (one-answer (g .result) (h .result), one-answer (g .left) (h .left))

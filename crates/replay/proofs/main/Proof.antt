@@ -10,10 +10,10 @@ use Rattle.replay.proofs.main.Lts as lts
 use Rattle.replay.proofs.replay.Reads as replay-reads
 
 abbrev Inv-loop : tie.InvT-loop
-Inv-loop k₀ k = k ≤ 27
+Inv-loop k₀ k = k ≤ 28
 
 abbrev μ-loop : tie.MeasureT-loop
-μ-loop k₀ k = 27 - k
+μ-loop k₀ k = 28 - k
 
 loop-holds : tie.Need-loop-holds Inv-loop μ-loop
 loop-holds c = omega arith
