@@ -4,17 +4,15 @@ use mathlib.Core.Path.{_≡_, refl, sym, ap, _∙_}
 use mathlib.Core.Bool.{Bool, true, false, cond, not}
 use mathlib.Core.List.{List, [], _∷_, _++_}
 use Prim.Native.Nat.{ℕ}
-use native.Mathlib.Omega.{arith}
 use lib.Dec.{eqb, ltb}
 use lib.ListN.{length, take, drop}
 use lib.Seq.{take-at}
-use borrow.Author.Tests.{eqb-true, ne-eqb}
+use borrow.Author.Tests.{eqb-true, eqb-false, ne-eqb}
 use Rattle.laws.specs.Refusals.{Refusal, _when_, firstOf}
 use Rattle.laws.proofs.Answers.{one-answer}
 use Rattle.laws.proofs.Bools.{not-false}
 use Rattle.laws.proofs.Refusals.{unmet, below}
 use Rattle.command.specs.declared.Command.{Command}
-use Rattle.phrase.specs.declared.WordsRead.{WordsRead}
 use Rattle.phrase.specs.declared.WordsRead.the-variants as Words
 use Rattle.phrase.specs.Reading.{echoOf}
 use Rattle.line.specs.declared.LineRead.{LineRead}
@@ -29,7 +27,7 @@ use Rattle.device.proofs.RefusalKeeps.{accepted-next}
 use Rattle.data.specs.Data.{refusalName}
 use Rattle.shown.specs.Data.{dataOf}
 use Rattle.carriage.specs.declared.Answer.{Answer}
-use Rattle.carriage.specs.Step.{Stepped, Gives, silent, written, replyOf, rejected, accepted, obeyed, unread, notMine, addressed, answered, silence, respond, step}
+use Rattle.carriage.specs.Step.{Stepped, Gives, silent, written, replyOf, rejected, accepted, obeyed, unread, notMine, answered, silence, respond, step}
 
 -- "1 to 5, 20, 21 are silent: length 0, nothing written": and the record stays
 pub record Unchanged (d : Device) (b : List ℕ) (s : Stepped) : Type 0 where
@@ -61,33 +59,51 @@ module _ (d : Device) (r : LineRead) (b : List ℕ) (e : silence d r b ≡ 0) wh
       go n true q h = eqb-true n 0 q
       go n false q h = h
 
--- what holds of the silence, of an answer that rejects and of one that accepts, holds of every answer
-module _ (P : Stepped → Type 0) (d : Device) (l b : List ℕ)
+-- what holds of every number that the reader rejects a line's words with
+abbrev pub Rejects : (ℕ → Type 0) → LineRead → Type 0
+Rejects Q (Silent n) = Unit
+Rejects Q (Addressed n k skip (Words.Command c)) = Unit
+Rejects Q (Addressed n k skip (Words.Refused m)) = Q m
+
+-- what holds of the silence, of an answer that rejects and of one that accepts, holds of every answer; Q is what is known of the
+-- numbers that the reader and the device reject with
+module _ (P : Stepped → Type 0) (Q : ℕ → Type 0) (d : Device) (l b : List ℕ)
     (quiet : P (silent (silence d (readLine l) b) d b))
-    (refused : (n k : ℕ) → good d ≡ true → P (rejected n d k b))
-    (done : (k skip : ℕ) (c : Command) → good d ≡ true → refusal d k c ≡ 0 → P (accepted d k (echoOf c (drop skip (wordsOf l))) c b)) where
+    (refused : (n k : ℕ) → Q n → good d ≡ true → P (rejected n d k b))
+    (done : (k skip : ℕ) (c : Command) → good d ≡ true → refusal d k c ≡ 0 → P (accepted d k (echoOf c (drop skip (wordsOf l))) c b))
+    (device : (k : ℕ) (c : Command) → (refusal d k c ≡ 0 → ⊥) → Q (refusal d k c)) where
   obeys : (k skip : ℕ) (c : Command) → good d ≡ true → P (obeyed d k (echoOf c (drop skip (wordsOf l))) c b)
   unfolding obeyed
   obeys k skip c g = go (eqb (refusal d k c) 0) refl
     where
       go : (t : Bool) → eqb (refusal d k c) 0 ≡ t → P (cond t (accepted d k (echoOf c (drop skip (wordsOf l))) c b) (rejected (refusal d k c) d k b))
       go true e = done k skip c g (eqb-true (refusal d k c) 0 e)
-      go false e = refused (refusal d k c) k g
+      go false e = refused (refusal d k c) k (device k c (eqb-false (refusal d k c) 0 e)) g
 
-  answers : (r : LineRead) → good d ≡ true → P (silent (unread r) d b) → P (answered d (wordsOf l) r b)
-  answers (Silent n) g q = q
-  answers (Addressed n k skip (Words.Refused m)) g q = refused m k g
-  answers (Addressed n k skip (Words.Command c)) g q = obeys k skip c g
+  answers : (r : LineRead) → Rejects Q r → good d ≡ true → P (silent (unread r) d b) → P (answered d (wordsOf l) r b)
+  answers (Silent n) h g q = q
+  answers (Addressed n k skip (Words.Refused m)) h g q = refused m k h g
+  answers (Addressed n k skip (Words.Command c)) h g q = obeys k skip c g
 
-  pub every-answer : P (step d l b)
+  pub each-answer : Rejects Q (readLine l) → P (step d l b)
   unfolding step respond
-  every-answer = go (eqb (silence d (readLine l) b) 0) refl
+  each-answer h = go (eqb (silence d (readLine l) b) 0) refl
     where
       go : (t : Bool) → eqb (silence d (readLine l) b) 0 ≡ t → P (cond t (answered d (wordsOf l) (readLine l) b) (silent (silence d (readLine l) b) d b))
       go true e =
           let z = eqb-true (silence d (readLine l) b) 0 e in
-          answers (readLine l) (heard-good d (readLine l) b z) (rw (heard-number d (readLine l) b z, ← z) quiet)
+          answers (readLine l) h (heard-good d (readLine l) b z) (rw (heard-number d (readLine l) b z, ← z) quiet)
       go false e = quiet
+
+-- the same, whatever the numbers are
+any-number : (r : LineRead) → Rejects (λ n. Unit) r
+any-number (Silent n) = tt
+any-number (Addressed n k skip (Words.Command c)) = tt
+any-number (Addressed n k skip (Words.Refused m)) = tt
+
+pub every-answer : (P : Stepped → Type 0) (d : Device) (l b : List ℕ) → P (silent (silence d (readLine l) b) d b) → ((n k : ℕ) → good d ≡ true → P (rejected n d k b))
+    → ((k skip : ℕ) (c : Command) → good d ≡ true → refusal d k c ≡ 0 → P (accepted d k (echoOf c (drop skip (wordsOf l))) c b)) → P (step d l b)
+every-answer P d l b quiet refused done = each-answer P (λ n. Unit) d l b quiet (λ n k u g. refused n k g) done (λ k c h. tt) (any-number (readLine l))
 
 -- A refusal, silent or replied, leaves the record as it was.
 pub refusal-keeps-the-record : (d : Device) (l b : List ℕ) → (step d l b .answer .number ≡ 0 → ⊥) → step d l b .answer .next ≡ d

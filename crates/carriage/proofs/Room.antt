@@ -1,14 +1,12 @@
 -- No reply exceeds 96 bytes, whatever the record, the line and the buffer: nothing of a reply is ever cut. And a silence has a number
 -- of two digits at most. Assumes nothing.
-use mathlib.Core.Path.{_≡_, refl, sym, ap, _∙_}
-use mathlib.Core.Bool.{Bool, true, false, not}
-use mathlib.Core.List.{List, [], _∷_}
-use Prim.Native.Nat.{ℕ, _+_, _-_, _≤_, _<_}
+use mathlib.Core.Path.{_≡_, refl}
+use mathlib.Core.Bool.{Bool, true, false}
+use mathlib.Core.List.{List, []}
+use Prim.Native.Nat.{ℕ, _-_, _≤_}
 use native.Mathlib.Omega.{arith}
-use lib.Dec.{eqb, ltb}
 use lib.ListN.{length, take, drop, length-take}
-use Rattle.laws.specs.Refusals.{Refusal, _when_, firstOf}
-use Rattle.laws.proofs.Each.{Each, none, more}
+use Rattle.laws.proofs.Each.{none, more}
 use Rattle.laws.proofs.Refusals.{at-most}
 use Rattle.words.specs.Cutting.{cut}
 use Rattle.command.specs.declared.Command.{Command}
@@ -23,32 +21,30 @@ use Rattle.line.specs.Refusals.{refusalOf}
 use Rattle.line.proofs.Frames.{content-fits}
 use Rattle.line.proofs.Refused.{line-refused}
 use Rattle.state.specs.declared.Device.{Device}
-use Rattle.state.specs.Good.{good}
-use Rattle.device.specs.Refusals.{refusal}
 use Rattle.device.specs.Effects.{next}
 use Rattle.data.specs.Data.{refusalName}
 use Rattle.data.proofs.Lengths.{refusal-length}
 use Rattle.reply.proofs.Room.{reply-length}
 use Rattle.view.specs.View.{headOf}
 use Rattle.shown.specs.Data.{dataOf}
-use Rattle.carriage.specs.Step.{Stepped, silent, written, wantsSum, replyOf, rejected, accepted, unread, notMine, silence, step}
+use Rattle.carriage.specs.Step.{silent, written, wantsSum, replyOf, rejected, accepted, unread, silence, step}
 use Rattle.carriage.proofs.Fits.{data-fits}
 use Rattle.carriage.proofs.Replies.{good-count, shown-digit, next-count}
 use Rattle.carriage.proofs.Demands.{every-answer}
 
 -- the words of a line are those of a content of 78 bytes at most
-record Content (ws : List (List ℕ)) : Type 0 where
+pub record Content (ws : List (List ℕ)) : Type 0 where
   pub bytes : List ℕ
-  pub words : ws ≡ cut bytes
+  pub cuts : ws ≡ cut bytes
   pub short : length bytes ≤ 78
 
-content-of : (l : List ℕ) → Content (wordsOf l)
+pub content-of : (l : List ℕ) → Content (wordsOf l)
 unfolding wordsOf cut
 content-of l = go (frameOf l) refl
   where
     go : (f : Frame) → frameOf l ≡ f → Content (contentOf l f)
-    go (Frame.Refused n) q = record { bytes = []; words = refl; short = omega arith }
-    go (Frame.Content n) q = record { bytes = take n (drop 1 l); words = refl; short = rw length-take (omega (arith, content-fits l n refl q)) }
+    go (Frame.Refused n) q = record { bytes = []; cuts = refl; short = omega arith }
+    go (Frame.Content n) q = record { bytes = take n (drop 1 l); cuts = refl; short = rw length-take (omega (arith, content-fits l n refl q)) }
 
 reply-short : (d : Device) (k : ℕ) (ok : Bool) (words : List ℕ) → d .count ≤ 4 → length words ≤ 74 → length (replyOf d k ok words) ≤ 96
 unfolding replyOf headOf
@@ -63,7 +59,7 @@ reply-at-most-96 d l b =
     let s = content-of l in
     let few : next d k c .count ≤ 4 = rw (next-count d k c) (good-count d g) in
     reply-short (next d k c) k true (dataOf d k (echoOf c (drop skip (wordsOf l))) c) few
-    (rw (s .words) (data-fits d k c (s .bytes) skip g (good-count d g) e (s .short))))
+    (rw (s .cuts) (data-fits d k c (s .bytes) skip g (good-count d g) e (s .short))))
 
 -- ---- the numbers of silence
 unread-small : (r : LineRead) → unread r ≤ numberOf r

@@ -6,7 +6,6 @@ use mathlib.Core.List.{List, [], _∷_, _++_}
 use Prim.Native.Nat.{ℕ}
 use lib.Dec.{eqb, ltb}
 use lib.ListN.{length, drop}
-use Rattle.laws.specs.Text.{text}
 use Rattle.laws.specs.Refusals.{_when_, firstOf}
 use Rattle.units.specs.Units.{place}
 use Rattle.command.specs.declared.Command.{Command}

@@ -28,11 +28,12 @@ use Rattle.phrase.specs.Reading.{ended, made, oneNumber, readMove, readSetting,
 use Rattle.line.specs.declared.Frame.{Frame}
 use Rattle.line.specs.declared.Frame.the-variants as Frame
 use Rattle.line.specs.declared.LineRead.{LineRead}
-use Rattle.line.specs.declared.LineRead.the-variants.{Silent, Addressed}
+use Rattle.line.specs.declared.LineRead.the-variants.{Addressed}
 use Rattle.line.specs.Reading.{frameOf, startsNumber, axisDigit, axisOf, addressOf, readWords, framed, readLine}
 use Rattle.state.specs.declared.Device.{Device}
 use Rattle.device.specs.Refusals.{refusal}
 use Rattle.data.specs.Data.{refusals, nameIn, refusalName}
+use Rattle.carriage.proofs.Demands.{Rejects}
 use Rattle.host.specs.Spelling.{Data}
 use Rattle.readback.proofs.Words.{word-of}
 use Rattle.replied.proofs.Texts.{one-data}
@@ -176,41 +177,36 @@ command-rejects (w ∷ ws) =
     (more (warnings-rejects ws) none))))))))
 
 -- ---- of a line: where it is not met with silence
-abbrev pub LineRejects : LineRead → Type 0
-LineRejects (Silent n) = Unit
-LineRejects (Addressed n k skip (Words.Command c)) = Unit
-LineRejects (Addressed n k skip (Words.Refused m)) = Rejecting m
-
-words-line : (n k skip : ℕ) (w : WordsRead) → WordsReject w → LineRejects (Addressed n k skip w)
+words-line : (n k skip : ℕ) (w : WordsRead) → WordsReject w → Rejects Rejecting (Addressed n k skip w)
 words-line n k skip (Words.Command c) h = tt
 words-line n k skip (Words.Refused m) h = h
 
-one-line : (t : Bool) (a b : LineRead) → LineRejects a → LineRejects b → LineRejects (cond t a b)
+one-line : (t : Bool) (a b : LineRead) → Rejects Rejecting a → Rejects Rejecting b → Rejects Rejecting (cond t a b)
 one-line true a b h k = h
 one-line false a b h k = k
 
-axis-rejects : (n : ℕ) (ws : List (List ℕ)) → LineRejects (axisOf n ws)
+axis-rejects : (n : ℕ) (ws : List (List ℕ)) → Rejects Rejecting (axisOf n ws)
 unfolding axisOf
 axis-rejects n ws =
     let k = axisDigit (headWord ws) in
     one-line (ltb k 10) (Addressed n k 2 (readCommand (tailWords ws))) (Addressed n 0 1 (readCommand ws))
     (words-line n k 2 (readCommand (tailWords ws)) (command-rejects (tailWords ws))) (words-line n 0 1 (readCommand ws) (command-rejects ws))
 
-address-rejects : (u : UnsignedRead) (ws : List (List ℕ)) → LineRejects (addressOf u ws)
+address-rejects : (u : UnsignedRead) (ws : List (List ℕ)) → Rejects Rejecting (addressOf u ws)
 address-rejects (Unsigned.Refused p) ws = tt
 address-rejects (Unsigned.Value n) ws = axis-rejects n ws
 
-words-reject : (ws : List (List ℕ)) → LineRejects (readWords ws)
+words-reject : (ws : List (List ℕ)) → Rejects Rejecting (readWords ws)
 unfolding readWords
 words-reject ws =
     let u = readAddress (headWord ws) in
     one-line (startsNumber (headWord ws)) (addressOf u (tailWords ws)) (Addressed 0 0 0 (readCommand ws))
     (address-rejects u (tailWords ws)) (words-line 0 0 0 (readCommand ws) (command-rejects ws))
 
-pub line-rejects : (l : List ℕ) → LineRejects (readLine l)
+pub line-rejects : (l : List ℕ) → Rejects Rejecting (readLine l)
 unfolding readLine
 line-rejects l = go (frameOf l)
   where
-    go : (f : Frame) → LineRejects (framed l f)
+    go : (f : Frame) → Rejects Rejecting (framed l f)
     go (Frame.Refused n) = tt
     go (Frame.Content n) = words-reject (cut (take n (drop 1 l)))

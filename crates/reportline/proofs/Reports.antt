@@ -1,24 +1,22 @@
 -- The line of a motor report, as the code finds its words one behind the other.
 -- Assumes nothing.
 use mathlib.Core.Path.{_≡_, refl, sym, ap, _∙_}
-use mathlib.Core.Bool.{Bool, true, false, cond, not}
+use mathlib.Core.Bool.{Bool, true, false, cond}
 use mathlib.Core.List.{List, [], _∷_}
 use Prim.Native.Nat.{ℕ, _≤_, _<_}
 use native.Mathlib.Omega.{arith}
-use lib.Dec.{ltb}
 use lib.ListN.{length, take, drop}
 use borrow.Author.Tests.{lt-ltb, le-ltb}
 use Rattle.laws.specs.Lists.{span}
 use Rattle.laws.specs.Text.{text, same}
 use Rattle.number.specs.declared.NumberRead.{NumberRead}
 use Rattle.number.specs.declared.NumberRead.the-variants.{Value, Refused}
-use Rattle.number.specs.Reading as Number
 use Rattle.number.specs.Reading.{readNumber}
 use Rattle.words.specs.Cutting.{cut, headWord, tailWords}
 use Rattle.words.proofs.Cut.{head-empty}
 use Rattle.line.specs.Reading.{printable, isFooter, most}
 use Rattle.reportline.specs.declared.ReportRead.{ReportRead}
-use Rattle.reportline.specs.declared.ReportRead.the-variants.{Report, Misspelt}
+use Rattle.reportline.specs.declared.ReportRead.the-variants.{Misspelt}
 use Rattle.reportline.specs.Reading.{numbersOf, reportWords, framed, readReport}
 
 -- a word that is missing is no number

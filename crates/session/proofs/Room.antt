@@ -1,9 +1,9 @@
 -- What bench prints always has room in its buffer of 96 times 4,096 bytes: a part has a byte at least and prints 96 at most.
 -- So nothing that it prints is ever cut. Assumes nothing.
-use mathlib.Core.Path.{_≡_, refl, sym, _∙_}
+use mathlib.Core.Path.{_≡_, refl}
 use mathlib.Core.Bool.{Bool, true, false, cond}
-use mathlib.Core.List.{List, [], _∷_, _++_}
-use Prim.Native.Nat.{ℕ, suc, _+_, _*_, _≤_, _<_}
+use mathlib.Core.List.{List, [], _∷_}
+use Prim.Native.Nat.{ℕ, suc, _*_, _≤_, _<_}
 use native.Mathlib.Omega.{arith}
 use lib.Dec.{eqb}
 use lib.ListN.{length, take, replicate, length-append, length-take}
@@ -12,17 +12,15 @@ use Rattle.laws.specs.Text.{LF, text}
 use Rattle.laws.proofs.Each.{none, more}
 use Rattle.laws.proofs.Refusals.{at-most}
 use Rattle.units.specs.Units.{place}
-use Rattle.number.specs.Decimal.{digits}
 use Rattle.number.proofs.Decimal.{digits-length}
 use Rattle.words.specs.Cutting.{grow}
-use Rattle.line.specs.Reading.{readLine}
 use Rattle.state.specs.declared.Device.{Device}
 use Rattle.reports.specs.declared.Report.{Report as Motor}
 use Rattle.reports.specs.Reports.{reportOf}
 use Rattle.device.specs.Reports as Device
 use Rattle.data.specs.Data.{refusalName}
 use Rattle.reply.specs.Reply.{reply}
-use Rattle.carriage.specs.Step.{Stepped, silent, written, replyOf, rejected, accepted, silence, step}
+use Rattle.carriage.specs.Step.{Stepped, silent, written, replyOf, rejected, accepted, step}
 use Rattle.carriage.specs.Report as Report
 use Rattle.carriage.proofs.Demands.{every-answer}
 use Rattle.carriage.proofs.Room.{reply-at-most-96, silence-small}
@@ -31,7 +29,7 @@ use Rattle.reportline.specs.declared.ReportRead.the-variants.{Report, Misspelt}
 use Rattle.reportline.specs.Reading.{readReport}
 use Rattle.parts.specs.Parts.{parts}
 use Rattle.parts.specs.Prints.{isReport, told, answered}
-use Rattle.session.specs.Bench.{heard, reportTurn, lineTurn, turn, turns, benchDevice, bench}
+use Rattle.session.specs.Bench.{reportTurn, lineTurn, turn, turns, benchDevice, bench}
 
 told-short : (name : List ℕ) (n : ℕ) → length name ≤ 7 → n < 100 → length (told name n) ≤ 96
 unfolding told text
