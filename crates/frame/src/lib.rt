@@ -2,7 +2,8 @@
 // The rules are in line/specs/Reading.antt.
 ghost use mathlib.Core.Path.{_≡_};
 ghost use Rattle.laws.specs.Lists.{span};
-ghost use Rattle.line.specs.Reading.{printable, noColon, isEnd, isFooter, saysSum, parted, afterSlash, frameOf};
+ghost use Rattle.number.specs.Reading.{saysSum};
+ghost use Rattle.line.specs.Reading.{printable, noColon, isEnd, isFooter, parted, afterSlash, frameOf};
 use line::Frame;
 use number::PairRead;
 

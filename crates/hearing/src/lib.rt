@@ -2,7 +2,8 @@
 // The rules are in host/specs/Reading.antt; host/proofs/Replies.antt shows that just what is spelled is read.
 ghost use mathlib.Core.Path.{_≡_};
 ghost use Prim.Native.Nat.{_+_};
-ghost use Rattle.host.specs.Reading.{dataLength, saysSum, rightEnd, framed, readReply};
+ghost use Rattle.number.specs.Reading.{saysSum};
+ghost use Rattle.host.specs.Reading.{dataLength, rightEnd, framed, readReply};
 use fields::byte_at;
 use fields::field;
 use fields::is_marked;

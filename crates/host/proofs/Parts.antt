@@ -16,7 +16,8 @@ use Rattle.laws.proofs.Lists.{rest}
 use Rattle.number.specs.Checksum.{checksum}
 use Rattle.number.specs.declared.PairRead.{PairRead}
 use Rattle.number.specs.declared.PairRead.the-variants as Pair
-use Rattle.host.specs.Reading.{twoOf, saysSum}
+use Rattle.number.specs.Reading.{saysSum}
+use Rattle.host.specs.Reading.{twoOf}
 
 pub past-end : (s : List ℕ) (at : ℕ) → length s ≤ at → 0 ≡ getD s at 0
 past-end [] at h = refl

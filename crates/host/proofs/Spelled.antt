@@ -16,17 +16,15 @@ use Rattle.laws.proofs.Bools.{and-left, and-right, clash}
 use Rattle.laws.proofs.Same.{same-true}
 use Rattle.laws.proofs.Span.{span-yes, span-not, span-none}
 use Rattle.number.specs.Checksum.{checksum}
-use Rattle.number.specs.Reading.{readPair}
+use Rattle.number.specs.Reading.{readPair, saysSum}
 use Rattle.number.specs.Spelling.{HexPair, pair}
-use Rattle.number.specs.declared.PairRead.{PairRead}
-use Rattle.number.specs.declared.PairRead.the-variants as Pair
-use Rattle.number.proofs.Numbers.{pair-read, pair-of}
+use Rattle.number.proofs.Numbers.{pair-read, says-pair}
 use Rattle.words.specs.Find.{index}
 use Rattle.words.specs.Spelling.{WordByte}
 use Rattle.words.proofs.Index.{index-is}
 use Rattle.flags.specs.Flags.{warningNames}
 use Rattle.host.specs.Spelling.{Verdict, accepted, rejected, Status, idle, busy, Warning, fd, fq, fs, ft, fb, fp, fe, wr, Bytes, gap, byte, Data, begun, End, bare, summed}
-use Rattle.host.specs.Reading.{field, stands, verdicts, statuses, warnings, dataByte, saysSum, rightEnd}
+use Rattle.host.specs.Reading.{field, stands, verdicts, statuses, warnings, dataByte, rightEnd}
 
 -- ---- the words of the three lists
 pub data Two : List ℕ → Type 0 where
@@ -194,13 +192,6 @@ pub end-read : {s e : List ℕ} → End s e → rightEnd s e ≡ true
 unfolding rightEnd text same
 end-read bare = refl
 end-read {s} (summed h) = sum-read h s refl
-
-says-pair : (s : List ℕ) (h l : ℕ) → saysSum s (readPair h l) ≡ true → HexPair (h ∷ l ∷ []) (checksum s)
-says-pair s h l t = go (readPair h l) refl t
-  where
-    go : (p : PairRead) → readPair h l ≡ p → saysSum s p ≡ true → HexPair (h ∷ l ∷ []) (checksum s)
-    go (Pair.Value n) e t = rw (← eqb-true n (checksum s) t) (pair-of h l n e)
-    go Pair.Refused e t = clash t refl
 
 summed-of : (s e : List ℕ) → (stands e 0 (text ":") && same (drop 3 e) (text "\r\n") && saysSum s (readPair (getD e 1 0) (getD e 2 0))) ≡ true → End s e
 unfolding stands field text same

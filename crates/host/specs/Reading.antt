@@ -7,10 +7,7 @@ use lib.Dec.{eqb, ltb, leb}
 use lib.ListN.{length, getD, take, drop}
 use Rattle.laws.specs.Lists.{span}
 use Rattle.laws.specs.Text.{colon, text, same}
-use Rattle.number.specs.Checksum.{checksum}
-use Rattle.number.specs.Reading.{valueOf, readPair}
-use Rattle.number.specs.declared.PairRead.{PairRead}
-use Rattle.number.specs.declared.PairRead.the-variants as Pair
+use Rattle.number.specs.Reading.{valueOf, readPair, saysSum}
 use Rattle.words.specs.Find.{index}
 use Rattle.flags.specs.Flags.{warningNames}
 use Rattle.host.specs.declared.Heard.{Heard}
@@ -65,11 +62,6 @@ dataByte c = leb 32 c && leb c 126 && not (eqb c colon)
 
 unfoldable pub dataLength : List ℕ → ℕ
 dataLength l = span dataByte (drop 17 l)
-
--- whether a pair of digits says the checksum of s
-abbrev pub saysSum : List ℕ → PairRead → Bool
-saysSum s (Pair.Value n) = eqb n (checksum s)
-saysSum s Pair.Refused = false
 
 -- "checksum optional but right if present (either case)", and CR LF
 unfoldable pub rightEnd : List ℕ → List ℕ → Bool

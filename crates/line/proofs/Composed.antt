@@ -17,15 +17,13 @@ use Rattle.laws.proofs.Span.{span-yes, span-not, span-none, span-le}
 use Rattle.laws.proofs.Passes.{Passes, pass-cons, pass-head, pass-append, pass-both, front-passes, take-passes}
 use Rattle.number.specs.Checksum.{checksum}
 use Rattle.number.specs.Spelling.{Digit, figure, capital, small, HexPair, pair}
-use Rattle.number.specs.Reading.{readPair}
-use Rattle.number.specs.declared.PairRead.{PairRead}
-use Rattle.number.specs.declared.PairRead.the-variants as Pair
-use Rattle.number.proofs.Numbers.{pair-read, pair-of}
+use Rattle.number.specs.Reading.{readPair, saysSum}
+use Rattle.number.proofs.Numbers.{pair-read, says-pair}
 use Rattle.words.specs.Spelling.{Content}
 use Rattle.words.specs.Cutting.{cut}
 use Rattle.words.proofs.Content.{Plain, done, space, byte, content-cut, cut-content, content-plain}
 use Rattle.line.specs.Spelling.{End, Footer, Checksum}
-use Rattle.line.specs.Reading.{printable, noColon, isEnd, isFooter, saysSum, checked, parted, afterSlash, frameOf}
+use Rattle.line.specs.Reading.{printable, noColon, isEnd, isFooter, checked, parted, afterSlash, frameOf}
 use Rattle.line.specs.declared.Frame.{Frame}
 use Rattle.line.specs.declared.Frame.the-variants as Frame
 use Rattle.line.proofs.Frames.{low, high, between, colon-not, other-yes, tail-yes, tail-not, too-long, no-slash, slash-first, parted-fits}
@@ -124,13 +122,6 @@ unfolding checked
 sum-yes c Checksum.none = refl
 sum-yes {s} c (Checksum.sum r) = sum-pair c s refl r
 
-saying : (s : List ℕ) (h l : ℕ) → saysSum s (readPair h l) ≡ true → HexPair (h ∷ l ∷ []) (checksum s)
-saying s h l e = go (readPair h l) refl e
-  where
-    go : (p : PairRead) → readPair h l ≡ p → saysSum s p ≡ true → HexPair (h ∷ l ∷ []) (checksum s)
-    go (Pair.Value n) q e = rw (← eqb-true n (checksum s) e) (pair-of h l n q)
-    go Pair.Refused q e = let z : _≡_ {A = ℕ} 0 1 = cc in absurd (omega arith)
-
 -- what stands behind the content is its checksum, if it begins with a colon
 sum-of : (c n : ℕ) (s k : List ℕ) → (0 < length k → getD k 0 0 ≡ 58) → checked c s k ≡ Frame.Content n → Checksum s k
 unfolding checked text
@@ -140,7 +131,7 @@ sum-of c n s (x ∷ h ∷ []) b e = let z : _≡_ {A = ℕ} 0 1 = cc in absurd (
 sum-of c n s (x ∷ h ∷ l ∷ []) b e = go (saysSum s (readPair h l)) refl e
   where
     go : (t : Bool) → saysSum s (readPair h l) ≡ t → cond t (Frame.Content c) (Frame.Refused 3) ≡ Frame.Content n → Checksum s (x ∷ h ∷ l ∷ [])
-    go true q r = rw (b (omega arith)) (Checksum.sum (saying s h l q))
+    go true q r = rw (b (omega arith)) (Checksum.sum (says-pair s h l q))
     go false q r = let z : _≡_ {A = ℕ} 0 1 = cc in absurd (omega arith)
 sum-of c n s (x ∷ h ∷ l ∷ y ∷ r) b e = let z : _≡_ {A = ℕ} 0 1 = cc in absurd (omega arith)
 

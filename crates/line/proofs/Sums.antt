@@ -15,8 +15,8 @@ use Rattle.laws.proofs.Order.{lt-or-le, eq-or-ne}
 use Rattle.laws.proofs.Bools.{and-left, and-right}
 use Rattle.laws.proofs.Span.{span-not, span-le}
 use Rattle.laws.proofs.Passes.{Passes, pass-append, front-passes, passes-all, all-passes}
-use Rattle.number.specs.Reading.{readPair}
-use Rattle.line.specs.Reading.{noColon, saysSum, parted}
+use Rattle.number.specs.Reading.{readPair, saysSum}
+use Rattle.line.specs.Reading.{noColon, parted}
 use Rattle.line.specs.Refusals.{body, checksumRight, badSum, content}
 use Rattle.line.specs.declared.Frame.{Frame}
 use Rattle.line.specs.declared.Frame.the-variants as Frame

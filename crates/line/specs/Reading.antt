@@ -8,10 +8,7 @@ use lib.Dec.{eqb, ltb, leb}
 use lib.ListN.{take, drop, length}
 use Rattle.laws.specs.Lists.{span}
 use Rattle.laws.specs.Text.{CR, LF, plus-sign, minus-sign, slash, colon}
-use Rattle.number.specs.Checksum.{checksum}
-use Rattle.number.specs.Reading.{valueOf, readAddress, readPair}
-use Rattle.number.specs.declared.PairRead.{PairRead}
-use Rattle.number.specs.declared.PairRead.the-variants as Pair
+use Rattle.number.specs.Reading.{valueOf, readAddress, readPair, saysSum}
 use Rattle.number.specs.declared.UnsignedRead.{UnsignedRead}
 use Rattle.number.specs.declared.UnsignedRead.the-variants as Unsigned
 use Rattle.words.specs.Cutting.{cut, headWord, tailWords}
@@ -41,11 +38,6 @@ isFooter [] = false
 isFooter (c ∷ []) = isEnd c
 isFooter (c ∷ d ∷ []) = isEnd c && isEnd d
 isFooter (c ∷ d ∷ e ∷ f) = false
-
--- whether the digits h and l say the checksum of s
-abbrev pub saysSum : List ℕ → PairRead → Bool
-saysSum s (Pair.Value n) = eqb n (checksum s)
-saysSum s Pair.Refused = false
 
 -- the content s, of n bytes, and what stands behind it from the first colon on: nothing, or its checksum
 unfoldable pub checked : ℕ → List ℕ → List ℕ → Frame

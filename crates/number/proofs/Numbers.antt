@@ -12,12 +12,14 @@ use lib.ListN.{length, getD, drop}
 use Rattle.laws.specs.Text.{text}
 use Rattle.laws.proofs.Order.{lt-or-le, eq-or-ne}
 use Rattle.laws.proofs.Bools.{clash}
-use Rattle.number.specs.Reading.{valueOf, digitsFrom, startsHex, unsignedFrom, readAddress, above, below, readNumber, readPair}
+use Rattle.number.specs.Checksum.{checksum}
+use Rattle.number.specs.Reading.{valueOf, digitsFrom, startsHex, unsignedFrom, readAddress, above, below, readNumber, readPair, saysSum}
 use Rattle.number.specs.Spelling.{Digits, UnsignedWord, decimal, hex, NumberWord, bare, plus, minus, AddressWord, address, HexPair, pair}
 use Rattle.number.specs.declared.UnsignedRead.{UnsignedRead}
 use Rattle.number.specs.declared.UnsignedRead.the-variants as Unsigned
 use Rattle.number.specs.declared.NumberRead.{NumberRead}
 use Rattle.number.specs.declared.NumberRead.the-variants as Number
+use Rattle.number.specs.declared.PairRead.{PairRead}
 use Rattle.number.specs.declared.PairRead.the-variants as Pair
 use Rattle.number.proofs.Value as value
 use Rattle.number.proofs.Scan.{hex-empty, hex-one, hex-not-0, hex-second, unsigned-hex, unsigned-decimal, at-most, unsigned-most}
@@ -170,3 +172,11 @@ pair-of h l v e =
 
 pub pair-iff : (h l v : ℕ) → HexPair (h ∷ l ∷ []) v ↔ (readPair h l ≡ Pair.Value v)
 pair-iff h l v = (pair-read, pair-of h l v)
+
+-- the pair that says the checksum of s is the pair of its checksum
+pub says-pair : (s : List ℕ) (h l : ℕ) → saysSum s (readPair h l) ≡ true → HexPair (h ∷ l ∷ []) (checksum s)
+says-pair s h l t = go (readPair h l) refl t
+  where
+    go : (p : PairRead) → readPair h l ≡ p → saysSum s p ≡ true → HexPair (h ∷ l ∷ []) (checksum s)
+    go (Pair.Value n) e t = rw (← eqb-true n (checksum s) t) (pair-of h l n e)
+    go Pair.Refused e t = clash t refl
