@@ -62,19 +62,6 @@ fn reject(d: Device, k: u64, number: u8, reply: &mut [u8]) -> Answer
     }
 }
 
-// The place behind so many words of s.
-fn past_words(s: &[u8], many: usize) -> usize
-    ensures { λ r. ⌜ cut (drop r (now (s .entry))) ≡ drop many (cut (now (s .entry))) ⌝ }
-{
-    let mut at: usize = 0;
-    let mut i: usize = 0;
-    while i < many {
-        at = words::past_word(s, at);
-        i += 1;
-    }
-    at
-}
-
 // The accepting reply, of the record after the command. The command's own words stand behind `skip` others.
 fn accept(d: Device, k: u64, c: Command, s: &[u8], skip: usize, reply: &mut [u8]) -> Answer
     requires { ⌜ (96 ≤ length (now reply)) × (goodOf d ≡ true) × (refusalOf d k c ≡ 0) × (length (now s) ≤ 78) × (skip ≤ 2) ⌝ }
@@ -82,7 +69,7 @@ fn accept(d: Device, k: u64, c: Command, s: &[u8], skip: usize, reply: &mut [u8]
 {
     let after = next(d, k, c);
     let data = put_head(reply, 0, view::head(after, k, true));
-    let end = shown::put_data(reply, data, d, k, c, s, past_words(s, skip + 2));
+    let end = shown::put_data(reply, data, d, k, c, s, words::past_words(s, skip + 2));
     let length = put_end(reply, end, wants_sum(after));
     Answer {
         number: 0,

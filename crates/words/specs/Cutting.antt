@@ -2,7 +2,7 @@
 -- "Words ... parted by one or more spaces. Spaces may stand before the first word and after the last, or alone where there is no word."
 use mathlib.Core.Bool.{Bool, false, cond, not}
 use mathlib.Core.List.{List, [], _∷_}
-use Prim.Native.Nat.{ℕ, _+_}
+use Prim.Native.Nat.{ℕ, zero, suc, _+_}
 use lib.Dec.{eqb, ltb}
 use lib.ListN.{length, drop}
 use Rattle.laws.specs.Text.{space}
@@ -59,3 +59,8 @@ behind at (Word a e) = e
 
 unfoldable pub pastOf : List ℕ → ℕ → ℕ
 pastOf s at = behind at (nextOf s at)
+
+-- behind so many words from the front
+unfoldable pub pastMany : List ℕ → ℕ → ℕ
+pastMany s zero = 0
+pastMany s (suc n) = pastOf s (pastMany s n)

@@ -3,7 +3,7 @@
 ghost use mathlib.Core.Path.{_≡_};
 ghost use lib.ListN.{drop};
 ghost use Rattle.laws.specs.Text.{same};
-ghost use Rattle.words.specs.Cutting.{startOf, endOf, nextOf, cut, headWord, tailWords, pastOf};
+ghost use Rattle.words.specs.Cutting.{startOf, endOf, nextOf, cut, headWord, tailWords, pastOf, pastMany};
 ghost use Rattle.words.specs.Find.{index};
 
 pub enum Next {
@@ -112,15 +112,23 @@ pub fn find_word(w: &[u8], names: &[u8]) -> usize
     k
 }
 
+// The place behind so many words from the front: the words from there on are the others.
+pub fn past_words(s: &[u8], many: usize) -> usize
+    ensures place { λ r. ⌜ r ≡ pastMany (now (s .entry)) many ⌝ }
+    ensures others { λ r. ⌜ cut (drop r (now (s .entry))) ≡ drop many (cut (now (s .entry))) ⌝ }
+{
+    let mut at: usize = 0;
+    let mut i: usize = 0;
+    while i < many {
+        at = past_word(s, at);
+        i += 1;
+    }
+    at
+}
+
 // The word of s at a place from 0, or nothing where there are not so many.
 pub fn nth_word(s: &[u8], k: usize) -> &[u8]
     ensures { λ r. ⌜ now r ≡ headWord (drop k (cut (now (s .entry)))) ⌝ }
 {
-    let mut at: usize = 0;
-    let mut i: usize = 0;
-    while i < k {
-        at = past_word(s, at);
-        i += 1;
-    }
-    first_word(s, at)
+    first_word(s, past_words(s, k))
 }

@@ -12,7 +12,6 @@ use Rattle.carriage.proofs.accept.Statement.{statement}
 use Rattle.carriage.proofs.accept.Tie as tie
 use Rattle.carriage.proofs.accept.Reads as reads
 use Rattle.carriage.proofs.accept.Lts as lts
-use Rattle.carriage.proofs.past_words.Reads as past-words-reads
 use Rattle.carriage.proofs.wants_sum.Reads as wants-sum-reads
 use Rattle.device.proofs.effects.next.Reads as next-reads
 use Rattle.reply.proofs.put_end.Reads as put-end-reads
@@ -58,7 +57,7 @@ returns c =
     let a = s .args in
     let ws = cut (a .s .now) in
     let few = good-count (a .d) (s .pre .1) in
-    let echo = echo-same (a .d) (a .k) (drop (a .skip) ws) _ (a .c) (shown .before .past-words .ensures ∙ behind-two ws (a .skip)) in
+    let echo = echo-same (a .d) (a .k) (drop (a .skip) ws) _ (a .c) (shown .before .past-words .ensures .1 ∙ behind-two ws (a .skip)) in
     rw (after .next .ensures)
     (reply-gives 0 _ (a .k) _ _ (rw (next-count (a .d) (a .k) (a .c)) few) (data-fits (a .d) (a .k) (a .c) (a .s .now) (a .skip) (s .pre .1) few (s .pre .2) (s .pre .3)) (s .pre .0)
     (rw (head .before .head .ensures, after .next .ensures) at (head .put-head .ensures)) (rw echo at (shown .put-data .ensures)) (rw (end .before .wants-sum .ensures, after .next .ensures) at (end .put-end .ensures)))
