@@ -1,3 +1,4 @@
+pub mod OnlyShows
 pub mod Accepted
 pub mod RefusalKeeps
 pub mod TargetExact

@@ -56,12 +56,6 @@ module _ (d : Device) (k : ℕ) (t : Target) (out : inside t (axesOf d k) ≡ fa
   pub outside-keeps : obey d k (MoveTo t) .next ≡ d
   outside-keeps = refusal-keeps d k (MoveTo t) outside-refused
 
--- no axis is too busy for a move
-never-busy : (xs : List Axis) → any (λ a. false) xs ≡ false
-unfolding fold
-never-busy [] = refl
-never-busy (a ∷ xs) = never-busy xs
-
 -- a good record has access 1 or more
 some-access : (z : ℤ) → leZ (pos 1) z ≡ true → ltb (place z) 1 ≡ false
 some-access (pos n) h = le-ltb n 1 (leb-true 1 n h)
@@ -77,4 +71,4 @@ enough-access d g =
 pub outside-11 : (d : Device) (k : ℕ) (t : Target) → good d ≡ true → badAxis d k ≡ false → d .parked ≡ false → inside t (axesOf d k) ≡ false → obey d k (MoveTo t) .number ≡ 11
 unfolding obey refusal firstOf deviceOnly noAccess parked statusBusy badData
 outside-11 d k t g a p out =
-    simp (a, enough-access d g, p, never-busy (axesOf d k), some-may-not d k t out, and-false)
+    simp (a, enough-access d g, p, some-may-not d k t out, and-false)

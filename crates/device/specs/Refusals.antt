@@ -7,6 +7,7 @@ use lib.Dec.{eqb, ltb}
 use Rattle.laws.specs.Lists.{all, any}
 use Rattle.laws.specs.Refusals.{_when_, firstOf}
 use Rattle.units.specs.Units.{place}
+use Rattle.axis.specs.Record.{moving}
 use Rattle.orders.specs.Commands.{demands}
 use Rattle.device.specs.Types.{Command, Device}
 use Rattle.state.specs.Record.{axesOf}
@@ -29,7 +30,7 @@ parked d c = d .parked && demands c .unparked
 
 -- "set of pos, limit.min, limit.max or driver.dir on a moving axis, and park with an axis moving"
 unfoldable pub statusBusy : Device → ℕ → Command → Bool
-statusBusy d k c = any (demands c .busy) (axesOf d k)
+statusBusy d k c = demands c .rest && any moving (axesOf d k)
 
 -- "value, target, reference or range"; "an all-axes command is accepted only if each axis permits it"
 unfoldable pub badData : Device → ℕ → Command → Bool

@@ -47,7 +47,11 @@ fn after(d: Device, c: Command) -> Device
 pub fn next(d: Device, k: u64, c: Command) -> Device
     ensures { λ r. ⌜ r ≡ nextOf d k c ⌝ }
 {
-    after(d.change(k, Change::Obey(c)), c)
+    if orders::only_shows(c) {
+        d
+    } else {
+        after(d.change(k, Change::Obey(c)), c)
+    }
 }
 
 // The number of the refusal and the record as it was, or 0 and the next record.

@@ -41,12 +41,15 @@ fn parked_for(d: Device, c: Command) -> bool
     p & u
 }
 
-// 16 STATUSBUSY: some axis is too busy.
+// 16 STATUSBUSY: some axis moves, and the command takes its axes at rest.
 fn status_busy(d: Device, k: u64, c: Command) -> bool
     ensures { λ r. ⌜ r ≡ statusBusy d k c ⌝ }
 {
-    let r = d.each(k, Test::Free(c));
-    !r
+    if orders::at_rest(c) {
+        d.moving(k)
+    } else {
+        false
+    }
 }
 
 // 11 BADDATA: value, target, reference or range, on some axis.
@@ -72,6 +75,9 @@ pub fn refusal(d: Device, k: u64, c: Command) -> u8
     }
     if parked_for(d, c) {
         return 15;
+    }
+    if orders::only_shows(c) {
+        return 0;
     }
     if status_busy(d, k, c) {
         return 16;

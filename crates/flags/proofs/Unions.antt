@@ -10,16 +10,13 @@ use lib.Bits.{bitOr}
 use lib.ListN.{length, getD, drop, drop-of-length-le, replicate}
 use lib.Seq.{drop-cons}
 use Rattle.laws.specs.Lists.{fold}
+use Rattle.laws.proofs.Bools.{or-false}
 use Rattle.flags.specs.Flags.{bits, mask, active, either, union}
 use Rattle.flags.proofs.Bits.{bits-mask, bits-mod, bits-or, union-is}
 
 or-assoc : (a b c : Bool) → ((a || b) || c) ≡ (a || (b || c))
 or-assoc true b c = refl
 or-assoc false b c = refl
-
-or-false : (a : Bool) → (a || false) ≡ a
-or-false true = refl
-or-false false = refl
 
 either-assoc : (a b c : List Bool) → either (either a b) c ≡ either a (either b c)
 unfolding either

@@ -1,1 +1,2 @@
 pub mod GoodStays
+pub mod OnlyShows

@@ -1,24 +1,24 @@
 -- What each command demands of the device and of each axis that it concerns, and what it makes of such an axis.
 -- One line a row of document 01's table of commands.
-use mathlib.Core.Bool.{Bool, true, false, _&&_}
+use mathlib.Core.Bool.{Bool, true, false}
 use Prim.Native.Nat.{ℕ}
 use Rattle.command.specs.Settings.{about, ofDevice, onlyAtRest}
 use Rattle.settings.specs.Settings.{allows, put}
-use Rattle.axis.specs.Record.{withSettings, withMotion, moving, stopped}
+use Rattle.axis.specs.Record.{withSettings, withMotion, stopped}
 use Rattle.axis.specs.Travel.{isPlace, mayMoveTo, mayRunAt, mayStore}
 use Rattle.axis.specs.Moves.{moved, store, cleared}
 use Rattle.orders.specs.Types.{Number, Setting, OfAxis, OfDevice, Command, Nothing, Home, Stop, Estop, MoveTo, MoveVel, Get, Set, Storepos, StoreposAt, StoreposCurrent, Warnings, WarningsClear, ParkingState, Park, Unpark, Echo, Idle, Homing, At, Axis}
 
--- scope and access; whether only an unparked device takes it; which axes are too busy for it; which axes permit its values
+-- scope and access; whether only an unparked device takes it; whether it takes its axes at rest; which axes permit its values
 pub record Demands : Type 0 where
   pub device : Bool
   pub access : ℕ
   pub unparked : Bool
-  pub busy : Axis → Bool
+  pub rest : Bool
   pub permits : Axis → Bool
 
-abbrev row : Bool → ℕ → Bool → (Axis → Bool) → (Axis → Bool) → Demands
-row d a u b p = record { device = d; access = a; unparked = u; busy = b; permits = p }
+abbrev row : Bool → ℕ → Bool → Bool → (Axis → Bool) → Demands
+row d a u r p = record { device = d; access = a; unparked = u; rest = r; permits = p }
 
 -- the words of the table's columns
 abbrev ofAxes : Bool
@@ -33,8 +33,11 @@ unparked = true
 abbrev anytime : Bool
 anytime = false
 
-abbrev never : Axis → Bool
-never a = false
+abbrev atRest : Bool
+atRest = true
+
+abbrev evenMoving : Bool
+evenMoving = false
 
 abbrev always : Axis → Bool
 always a = true
@@ -42,23 +45,23 @@ always a = true
 -- scope; access; "On a parked device home, move, stop and estop are rejected"; STATUSBUSY: "set of pos, limit.min,
 -- limit.max or driver.dir on a moving axis, and park with an axis moving"; what the axis permits
 abbrev pub demands : Command → Demands
-demands Nothing = row ofAxes 1 anytime never always
-demands Home = row ofAxes 1 unparked never always
-demands Stop = row ofAxes 1 unparked never always
-demands Estop = row ofAxes 1 unparked never always
-demands (MoveTo t) = row ofAxes 1 unparked never (mayMoveTo t)
-demands (MoveVel v) = row ofAxes 1 unparked never (mayRunAt v)
-demands (Get s) = row (ofDevice s) (about s .get) anytime never always
-demands (Set s n) = row (ofDevice s) (about s .set) anytime (λ a. onlyAtRest s && moving a) (λ a. allows s n (a .settings))
-demands (Storepos n) = row ofAxes 1 anytime never (λ a. isPlace n)
-demands (StoreposAt n p) = row ofAxes 1 anytime never (mayStore n p)
-demands (StoreposCurrent n) = row ofAxes 1 anytime never (λ a. mayStore n (a .settings .pos) a)
-demands Warnings = row ofAxes 1 anytime never always
-demands WarningsClear = row ofAxes 1 anytime never always
-demands ParkingState = row device 1 anytime never always
-demands Park = row device 1 anytime moving always
-demands Unpark = row device 1 anytime never always
-demands Echo = row device 1 anytime never always
+demands Nothing = row ofAxes 1 anytime evenMoving always
+demands Home = row ofAxes 1 unparked evenMoving always
+demands Stop = row ofAxes 1 unparked evenMoving always
+demands Estop = row ofAxes 1 unparked evenMoving always
+demands (MoveTo t) = row ofAxes 1 unparked evenMoving (mayMoveTo t)
+demands (MoveVel v) = row ofAxes 1 unparked evenMoving (mayRunAt v)
+demands (Get s) = row (ofDevice s) (about s .get) anytime evenMoving always
+demands (Set s n) = row (ofDevice s) (about s .set) anytime (onlyAtRest s) (λ a. allows s n (a .settings))
+demands (Storepos n) = row ofAxes 1 anytime evenMoving (λ a. isPlace n)
+demands (StoreposAt n p) = row ofAxes 1 anytime evenMoving (mayStore n p)
+demands (StoreposCurrent n) = row ofAxes 1 anytime evenMoving (λ a. mayStore n (a .settings .pos) a)
+demands Warnings = row ofAxes 1 anytime evenMoving always
+demands WarningsClear = row ofAxes 1 anytime evenMoving always
+demands ParkingState = row device 1 anytime evenMoving always
+demands Park = row device 1 anytime atRest always
+demands Unpark = row device 1 anytime evenMoving always
+demands Echo = row device 1 anytime evenMoving always
 
 abbrev pub putSetting : Setting → Number → Axis → Axis
 putSetting (OfAxis s) n a = withSettings (put s n (a .settings)) a
@@ -83,3 +86,23 @@ axisAfter ParkingState a = a
 axisAfter Park a = a
 axisAfter Unpark a = a
 axisAfter Echo a = a
+
+-- the commands that only show: they ask nothing of an axis and change nothing
+abbrev pub onlyShows : Command → Bool
+onlyShows Nothing = true
+onlyShows Home = false
+onlyShows Stop = false
+onlyShows Estop = false
+onlyShows (MoveTo t) = false
+onlyShows (MoveVel v) = false
+onlyShows (Get s) = true
+onlyShows (Set s n) = false
+onlyShows (Storepos n) = false
+onlyShows (StoreposAt n p) = false
+onlyShows (StoreposCurrent n) = false
+onlyShows Warnings = true
+onlyShows WarningsClear = false
+onlyShows ParkingState = true
+onlyShows Park = false
+onlyShows Unpark = false
+onlyShows Echo = true

@@ -1,10 +1,7 @@
 // What a command demands of the device and of one axis, and what it makes of that axis.
 // One line a row of document 01's table of commands.
 ghost use mathlib.Core.Path.{_≡_};
-ghost use mathlib.Core.Bool.{_&&_};
-ghost use Rattle.command.specs.Settings.{onlyAtRest};
-ghost use Rattle.axis.specs.Record.{moving};
-ghost use Rattle.orders.specs.Commands.{demands, putSetting, axisAfter};
+ghost use Rattle.orders.specs.Commands.{demands, onlyShows, putSetting, axisAfter};
 use axis::Axis;
 use axis::Motion;
 use axis::travel::is_place;
@@ -87,17 +84,9 @@ pub fn unparked(c: Command) -> bool
     }
 }
 
-fn busy_to_set(a: Axis, s: Setting) -> bool
-    ensures { λ r. ⌜ r ≡ (onlyAtRest s && moving a) ⌝ }
-{
-    let x = s.only_at_rest();
-    let y = a.moving();
-    x & y
-}
-
-// Is the axis too busy for the command?
-pub fn busy(a: Axis, c: Command) -> bool
-    ensures { λ r. ⌜ r ≡ demands c .busy a ⌝ }
+// Does the command take its axes at rest?
+pub fn at_rest(c: Command) -> bool
+    ensures { λ r. ⌜ r ≡ demands c .rest ⌝ }
 {
     match c {
         Command::Nothing => false,
@@ -107,14 +96,14 @@ pub fn busy(a: Axis, c: Command) -> bool
         Command::MoveTo(_) => false,
         Command::MoveVel(_) => false,
         Command::Get(_) => false,
-        Command::Set(s, _) => busy_to_set(a, s),
+        Command::Set(s, _) => s.only_at_rest(),
         Command::Storepos(_) => false,
         Command::StoreposAt(_, _) => false,
         Command::StoreposCurrent(_) => false,
         Command::Warnings => false,
         Command::WarningsClear => false,
         Command::ParkingState => false,
-        Command::Park => a.moving(),
+        Command::Park => true,
         Command::Unpark => false,
         Command::Echo => false,
     }
@@ -141,6 +130,31 @@ pub fn permits(a: Axis, c: Command) -> bool
         Command::ParkingState => true,
         Command::Park => true,
         Command::Unpark => true,
+        Command::Echo => true,
+    }
+}
+
+// Does the command only show? It asks nothing of an axis and changes nothing, so that no axis has to be looked at.
+pub fn only_shows(c: Command) -> bool
+    ensures { λ r. ⌜ r ≡ onlyShows c ⌝ }
+{
+    match c {
+        Command::Nothing => true,
+        Command::Home => false,
+        Command::Stop => false,
+        Command::Estop => false,
+        Command::MoveTo(_) => false,
+        Command::MoveVel(_) => false,
+        Command::Get(_) => true,
+        Command::Set(_, _) => false,
+        Command::Storepos(_) => false,
+        Command::StoreposAt(_, _) => false,
+        Command::StoreposCurrent(_) => false,
+        Command::Warnings => true,
+        Command::WarningsClear => false,
+        Command::ParkingState => true,
+        Command::Park => false,
+        Command::Unpark => false,
         Command::Echo => true,
     }
 }

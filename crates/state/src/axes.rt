@@ -1,8 +1,9 @@
 // The axes that a number means: asked, their flags joined, changed.
 // Axis 0 means all axes up to the count.
 ghost use mathlib.Core.Path.{_≡_};
-ghost use Rattle.laws.specs.Lists.{all};
+ghost use Rattle.laws.specs.Lists.{all, any};
 ghost use Rattle.flags.specs.Flags.{mask, union};
+ghost use Rattle.axis.specs.Record.{moving as movingOf};
 ghost use Rattle.axis.specs.Warnings.{active as activeOf};
 ghost use Rattle.walks.specs.Each.{passes as passesOf, changed as changedBy, partOf};
 ghost use Rattle.state.specs.Record.{many as manyOf, axesOf, onAxes};
@@ -31,6 +32,14 @@ impl Device {
     {
         let axes = self.axes;
         walks::ask_each(axes, k, self.many(k), t)
+    }
+
+    // Does some axis that k means move?
+    pub fn moving(self, k: u64) -> bool
+        ensures { λ r. ⌜ r ≡ any movingOf (axesOf self k) ⌝ }
+    {
+        let axes = self.axes;
+        walks::any_moving(axes, k, self.many(k))
     }
 
     // The flags that are active on some axis that k means, FD to WR, as a mask.

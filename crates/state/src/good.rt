@@ -1,6 +1,7 @@
 // When a device record is good, and the fresh record where it may be asked for.
 // Every setting is asked for by its name, as in document 01's table.
 ghost use mathlib.Core.Path.{_≡_};
+ghost use mathlib.Core.Bool.{_&&_};
 ghost use Rattle.laws.specs.Lists.{all, any};
 ghost use Rattle.command.specs.Settings.{deviceSettings};
 ghost use Rattle.axis.specs.Record.{moving as movingOf};
@@ -11,7 +12,6 @@ use crate::Outcome;
 use command::DeviceSetting;
 use settings::device_range;
 use units::Number;
-use walks::Test;
 
 impl Device {
     fn in_range(self, s: DeviceSetting) -> bool
@@ -32,22 +32,20 @@ impl Device {
         a & (b & (c & (d & (e & f))))
     }
 
-    // Does some axis that k means move?
-    pub fn moving(self, k: u64) -> bool
-        ensures { λ r. ⌜ r ≡ any movingOf (axesOf self k) ⌝ }
+    // An axis in motion on a parked device is looked for on a parked device only.
+    fn moves_while_parked(self) -> bool
+        ensures { λ r. ⌜ r ≡ (self .parked && any movingOf (axesOf self 0)) ⌝ }
     {
-        let r = self.each(k, Test::AtRest);
-        !r
+        if self.parked { self.moving(0) } else { false }
     }
 
     pub fn good(self) -> bool
         ensures { λ r. ⌜ r ≡ goodOf self ⌝ }
     {
+        let axes = self.axes;
         let a = self.all_in_range();
-        let b = self.each(0, Test::Good);
-        let p = self.parked;
-        let m = self.moving(0);
-        let c = p & m;
+        let b = walks::all_good(axes, self.count as u64);
+        let c = self.moves_while_parked();
         a & (b & !c)
     }
 

@@ -2,7 +2,7 @@
 -- Assumes that there are four places, which every device record has.
 use mathlib.Core.Path.{_≡_, sym}
 use mathlib.Core.List.{List}
-use Prim.Native.Nat.{ℕ, _+_, _-_, _≤_}
+use Prim.Native.Nat.{ℕ, _+_, _-_, min, _≤_}
 use native.Mathlib.Omega.{arith}
 use lib.ListN.{length, take, drop}
 use Rattle.laws.specs.Lists.{changeFrom}
@@ -23,3 +23,6 @@ module _ (axes : List Axis) (n k : ℕ) (p : Part) (four : length axes ≡ 4) (e
   pub part-change : (g : Axis → Axis) → changeFrom g (p .from) (p .many) axes ≡ changeFrom g (k - 1) n axes
   unfolding partOf
   part-change g = rw e (sym (rw four at (change-clip g (k - 1) n axes)))
+
+pub first-axes : (axes : List Axis) (n : ℕ) → length axes ≡ 4 → take (min n 4) axes ≡ take n axes
+first-axes axes n four = sym (rw four at (part-clip 0 n axes))

@@ -1,22 +1,18 @@
 -- What is asked of each axis on a walk, and what is done to each.
 -- Each question is one of the rules of the crates below.
-use mathlib.Core.Bool.{Bool, not}
-use Prim.Native.Nat.{ℕ, _-_, min}
-use Rattle.axis.specs.Record.{moving}
-use Rattle.axis.specs.Good.{goodAxis}
+use mathlib.Core.Bool.{Bool, _&&_}
+use Prim.Native.Nat.{ℕ, _+_, _-_, min}
+use lib.Dec.{leb, ltb}
 use Rattle.reports.specs.Reports.{takes, reported}
 use Rattle.orders.specs.Commands.{demands, axisAfter}
 use Rattle.axis.specs.declared.Axis.{Axis}
 use Rattle.walks.specs.declared.Part.{Part}
 use Rattle.walks.specs.declared.Test.{Test}
-use Rattle.walks.specs.declared.Test.the-variants.{Good, AtRest, Free, Permits, Takes}
+use Rattle.walks.specs.declared.Test.the-variants.{Permits, Takes}
 use Rattle.walks.specs.declared.Change.{Change}
 use Rattle.walks.specs.declared.Change.the-variants.{Obey, Hear}
 
 abbrev pub passes : Test → Axis → Bool
-passes Good a = goodAxis a
-passes AtRest a = not (moving a)
-passes (Free c) a = not (demands c .busy a)
 passes (Permits c) a = demands c .permits a
 passes (Takes r) a = takes r a
 
@@ -27,3 +23,7 @@ changed (Hear r) a = reported r a
 -- n places from the number k on, of the four that there are
 unfoldable pub partOf : ℕ → ℕ → Part
 partOf n k = let i = min (k - 1) 4 in record { from = i; many = min n (4 - i) }
+
+-- the place i, from 0, is one of them
+unfoldable pub covers : Part → ℕ → Bool
+covers p i = leb (p .from) i && ltb i (p .from + p .many)

@@ -1,21 +1,21 @@
-// Three walks over the axis places of a device: to ask each the same question, to join their flags, to change each.
+// Walks over the axis places of a device: whether they are good, whether one moves, their flags joined, what a command or a report asks and does.
 // The places are n from the number k on, or as many of them as there are; k is 1 for the first, and 0 means the same.
 ghost use mathlib.Core.Path.{_≡_};
+ghost use mathlib.Core.Bool.{cond, _&&_};
 ghost use Prim.Native.Nat.{_+_, _-_, _≤_, min};
 ghost use lib.ListN.{length, take, drop};
-ghost use Rattle.laws.specs.Lists.{all, changeFrom};
-ghost use Rattle.flags.specs.Flags.{mask, union};
+ghost use Rattle.laws.specs.Lists.{all, any, changeFrom};
+ghost use Rattle.flags.specs.Flags.{bits, mask, either, union};
+ghost use Rattle.axis.specs.Record.{moving as movingOf};
+ghost use Rattle.axis.specs.Good.{goodAxis};
 ghost use Rattle.axis.specs.Warnings.{active as activeOf};
-ghost use Rattle.walks.specs.Each.{passes as passesOf, changed as changedBy, partOf};
+ghost use Rattle.walks.specs.Each.{passes as passesOf, changed as changedBy, partOf, covers as coversAt};
 use axis::Axis;
 use command::Command;
 use reports::Report;
 
 // What is asked of an axis.
 pub enum Test {
-    Good,
-    AtRest,
-    Free(Command),
     Permits(Command),
     Takes(Report),
 }
@@ -36,15 +36,6 @@ fn passes(a: Axis, t: Test) -> bool
     ensures { λ r. ⌜ r ≡ passesOf t a ⌝ }
 {
     match t {
-        Test::Good => a.good(),
-        Test::AtRest => {
-            let m = a.moving();
-            !m
-        }
-        Test::Free(c) => {
-            let b = orders::busy(a, c);
-            !b
-        }
         Test::Permits(c) => orders::permits(a, c),
         Test::Takes(r) => reports::takes(a, r),
     }
@@ -91,22 +82,6 @@ fn change_all(axes: [Axis; 4], g: Change, from: usize, many: usize) -> [Axis; 4]
     next
 }
 
-fn all_active(axes: [Axis; 4], from: usize, many: usize) -> u32
-    requires { ⌜ from + many ≤ 4 ⌝ }
-    ensures { λ r. ⌜ (length axes ≡ 4) × (r ≡ mask (union activeOf (take many (drop from axes)))) ⌝ }
-{
-    let mut w: u32 = 0;
-    let mut n: usize = 0;
-    while n < many {
-        let i = from + n;
-        let a = axes[i];
-        let t = a.active();
-        w = flags::union(w, t);
-        n = n + 1;
-    }
-    w % 256
-}
-
 fn least(a: u64, b: u64) -> u64
     ensures { λ r. ⌜ r ≡ min a b ⌝ }
 {
@@ -131,6 +106,65 @@ pub fn part_of(k: u64, n: u64) -> Part
     }
 }
 
+// Is the axis at place i, from 0, one of the part?
+fn covers(p: Part, i: usize) -> bool
+    requires { ⌜ p .from + p .many ≤ 4 ⌝ }
+    ensures { λ r. ⌜ r ≡ coversAt p i ⌝ }
+{
+    let a = p.from <= i;
+    let b = i < p.from + p.many;
+    a & b
+}
+
+// Is every axis good, of the first n?
+pub fn all_good(axes: [Axis; 4], n: u64) -> bool
+    ensures { λ r. ⌜ r ≡ all goodAxis (take n axes) ⌝ }
+{
+    let many = least(n, 4) as usize;
+    let mut ok = true;
+    let mut i: usize = 0;
+    while i < many {
+        let a = axes[i];
+        let g = a.good();
+        ok = ok & g;
+        i = i + 1;
+    }
+    ok
+}
+
+fn moves_at(p: Part, i: usize, a: Axis) -> bool
+    requires { ⌜ p .from + p .many ≤ 4 ⌝ }
+    ensures { λ r. ⌜ r ≡ (coversAt p i && movingOf a) ⌝ }
+{
+    let c = covers(p, i);
+    let m = a.moving();
+    c & m
+}
+
+// The flags of an axis joined to those in w, or w alone where the part does not cover the axis.
+fn join_at(p: Part, i: usize, a: Axis, w: u32) -> u32
+    requires { ⌜ p .from + p .many ≤ 4 ⌝ }
+    ensures { λ r. ⌜ r ≡ mask (either (cond (coversAt p i) (activeOf a) (bits 8 0)) (bits 8 w)) ⌝ }
+{
+    if covers(p, i) {
+        flags::union(a.active(), w)
+    } else {
+        flags::union(0, w)
+    }
+}
+
+// Does some of these axes move? Each place is named, so that no axis is copied to be looked at.
+pub fn any_moving(axes: [Axis; 4], k: u64, n: u64) -> bool
+    ensures { λ r. ⌜ r ≡ any movingOf (take n (drop (k - 1) axes)) ⌝ }
+{
+    let p = part_of(k, n);
+    let a = moves_at(p, 0, axes[0]);
+    let b = moves_at(p, 1, axes[1]);
+    let c = moves_at(p, 2, axes[2]);
+    let d = moves_at(p, 3, axes[3]);
+    a | (b | (c | d))
+}
+
 // Does each of these axes pass the test?
 pub fn ask_each(axes: [Axis; 4], k: u64, n: u64, t: Test) -> bool
     ensures { λ r. ⌜ r ≡ all (passesOf t) (take n (drop (k - 1) axes)) ⌝ }
@@ -144,7 +178,10 @@ pub fn join_flags(axes: [Axis; 4], k: u64, n: u64) -> u32
     ensures { λ r. ⌜ r ≡ mask (union activeOf (take n (drop (k - 1) axes))) ⌝ }
 {
     let p = part_of(k, n);
-    all_active(axes, p.from, p.many)
+    let d = join_at(p, 3, axes[3], 0);
+    let c = join_at(p, 2, axes[2], d);
+    let b = join_at(p, 1, axes[1], c);
+    join_at(p, 0, axes[0], b)
 }
 
 // These axes changed, and all other places as they are.

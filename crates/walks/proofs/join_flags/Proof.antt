@@ -1,26 +1,70 @@
--- The walk over the places, cut at the fourth.
+-- Each place that the part covers, and the part is of the places that the number means.
 -- Assumes nothing.
-use borrow.Author.Needs.{needs}
-use mathlib.Core.Path.{ap, _∙_}
+use mathlib.Core.Path.{_≡_, ap, _∙_}
 use mathlib.Core.List.{List}
+use lib.ListN.{length}
 use Rattle.flags.specs.Flags.{mask, union}
+use Rattle.flags.proofs.Unions.{bits-active}
 use Rattle.axis.specs.Warnings.{active}
 use Rattle.axis.specs.declared.Axis.{Axis}
 use Rattle.walks.proofs.Parts.{part-inside, part-axes}
+use Rattle.walks.proofs.Four.{union-part}
+use borrow.Author.Needs.{needs}
 use Rattle.walks.proofs.join_flags.Statement.{statement}
 use Rattle.walks.proofs.join_flags.Tie as tie
+
+four : (c : tie.Start) → length (c .args .t1) ≡ 4
+four c = search needs
 
 part-of-requires : tie.Need-part-of-requires
 part-of-requires c κs = search needs
 
-all-active-requires : tie.Need-all-active-requires
-all-active-requires c κs = part-inside _ _ _ (c .part-of .ensures)
+array-copy-out-join-at : tie.Need-array-copy-out-join-at
+array-copy-out-join-at c = search needs
+
+join-at-requires : tie.Need-join-at-requires
+join-at-requires c κs = part-inside _ _ _ (c .before .part-of .ensures)
+
+array-copy-out-join-at-2 : tie.Need-array-copy-out-join-at-2
+array-copy-out-join-at-2 c = search needs
+
+join-at-requires-2 : tie.Need-join-at-requires-2
+join-at-requires-2 c κs = part-inside _ _ _ (c .before .before .before .part-of .ensures)
+
+array-copy-out-join-at-3 : tie.Need-array-copy-out-join-at-3
+array-copy-out-join-at-3 c = search needs
+
+join-at-requires-3 : tie.Need-join-at-requires-3
+join-at-requires-3 c κs = part-inside _ _ _ (c .before .before .before .before .before .part-of .ensures)
+
+array-copy-out-join-at-4 : tie.Need-array-copy-out-join-at-4
+array-copy-out-join-at-4 c = search needs
+
+join-at-requires-4 : tie.Need-join-at-requires-4
+join-at-requires-4 c κs = part-inside _ _ _ (c .before .before .before .before .before .before .before .part-of .ensures)
 
 returns : tie.Need-returns
 returns c =
-    let a = c .before .before .args in
-    c .all-active .ensures .1
-    ∙ ap (λ (l : List Axis). mask (union active l)) (part-axes (a .axes) (a .n) (a .k) _ (c .all-active .ensures .0) (c .before .part-of .ensures))
+    let third = c .before .before in
+    let second = third .before .before in
+    let first = second .before .before in
+    let part = first .before .before in
+    let s = part .before in
+    let k = four s in
+    union-part active (λ a. bits-active _ _) (s .args .t1) _ k (part .part-of .result) (part-inside _ _ _ (part .part-of .ensures)) (first .join-at .ensures) (second .join-at2 .ensures) (third .join-at3 .ensures) (c .join-at4 .ensures)
+    ∙ ap (λ (l : List Axis). mask (union active l)) (part-axes (s .args .t1) (s .args .n) (s .args .k) _ k (part .part-of .ensures))
 
 pub join-flags-spec : {M : Type 1} → statement M
-join-flags-spec = tie.close (tie.spec part-of-requires all-active-requires returns)
+join-flags-spec =
+    tie.close
+    (tie.spec
+    part-of-requires
+    array-copy-out-join-at
+    join-at-requires
+    array-copy-out-join-at-2
+    join-at-requires-2
+    array-copy-out-join-at-3
+    join-at-requires-3
+    array-copy-out-join-at-4
+    join-at-requires-4
+    returns)

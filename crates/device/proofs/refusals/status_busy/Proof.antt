@@ -1,20 +1,24 @@
--- Some axis is busy where not every axis is free.
+-- Whether an axis moves, where the command takes its axes at rest.
 -- Assumes nothing.
-use mathlib.Core.Path.{sym}
-use Rattle.laws.proofs.Folds.{any-all}
-use Rattle.orders.specs.Commands.{demands}
-use Rattle.state.specs.Record.{axesOf}
+use mathlib.Core.Path.{sym, _∙_}
 use Rattle.device.specs.Refusals.{statusBusy}
 use borrow.Author.Needs.{needs}
 use Rattle.device.proofs.refusals.status_busy.Statement.{statement}
 use Rattle.device.proofs.refusals.status_busy.Tie as tie
 
-each-requires : tie.Need-each-requires
-each-requires c κs = search needs
+at-rest-requires : tie.Need-at-rest-requires
+at-rest-requires c κs = search needs
+
+moving-requires : tie.Need-moving-requires
+moving-requires c κs = search needs
 
 returns : tie.Need-returns
 unfolding statusBusy
-returns c = rw (c .each .ensures) (sym (any-all (demands (c .before .args .c) .busy) (axesOf (c .before .args .d) (c .before .args .k))))
+returns c = rw (sym (c .before .before .at-rest .ensures) ∙ c .before .if1 .taken) (c .moving .ensures)
+
+returns-2 : tie.Need-returns-2
+unfolding statusBusy
+returns-2 c = rw (sym (c .before .at-rest .ensures) ∙ c .if1 .left)
 
 pub status-busy-spec : {M : Type 1} → statement M
-status-busy-spec = tie.close (tie.spec each-requires returns)
+status-busy-spec = tie.close (tie.spec at-rest-requires moving-requires returns returns-2)

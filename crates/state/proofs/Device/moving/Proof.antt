@@ -1,18 +1,19 @@
--- Some axis moves where not every axis is at rest.
+-- The walk over the places of the axes that the number means.
 -- Assumes nothing.
-use mathlib.Core.Path.{sym}
-use Rattle.laws.proofs.Folds.{any-all}
-use Rattle.axis.specs.Record.{moving}
 use Rattle.state.specs.Record.{axesOf}
 use borrow.Author.Needs.{needs}
 use Rattle.state.proofs.Device.moving.Statement.{statement}
 use Rattle.state.proofs.Device.moving.Tie as tie
 
-each-requires : tie.Need-each-requires
-each-requires c κs = search needs
+many-requires : tie.Need-many-requires
+many-requires c κs = search needs
+
+any-moving-requires : tie.Need-any-moving-requires
+any-moving-requires c κs = search needs
 
 returns : tie.Need-returns
-returns c = rw (c .each .ensures) (sym (any-all moving (axesOf (c .before .args .self) (c .before .args .k))))
+unfolding axesOf
+returns c = simp (c .any-moving .ensures, c .before .many .ensures)
 
 pub moving-spec : {M : Type 1} → statement M
-moving-spec = tie.close (tie.spec each-requires returns)
+moving-spec = tie.close (tie.spec many-requires any-moving-requires returns)

@@ -1,8 +1,8 @@
 -- Each arm gives its row of the table.
 -- Assumes nothing.
 use borrow.Author.Needs.{needs}
-use Rattle.orders.proofs.busy.Statement.{statement}
-use Rattle.orders.proofs.busy.Tie as tie
+use Rattle.orders.proofs.only_shows.Statement.{statement}
+use Rattle.orders.proofs.only_shows.Tie as tie
 
 enum-told : tie.Need-enum-told
 enum-told c = search needs
@@ -25,12 +25,6 @@ enum-told-6 c = search needs
 enum-told-7 : tie.Need-enum-told-7
 enum-told-7 c = search needs
 
-enum-known-c : tie.Need-enum-known-c
-enum-known-c c = search needs
-
-busy-to-set-requires : tie.Need-busy-to-set-requires
-busy-to-set-requires c κs = search needs
-
 enum-told-8 : tie.Need-enum-told-8
 enum-told-8 c = search needs
 
@@ -52,14 +46,14 @@ enum-told-13 c = search needs
 enum-told-14 : tie.Need-enum-told-14
 enum-told-14 c = search needs
 
-moving-requires : tie.Need-moving-requires
-moving-requires c κs = search needs
-
 enum-told-15 : tie.Need-enum-told-15
 enum-told-15 c = search needs
 
 enum-told-16 : tie.Need-enum-told-16
 enum-told-16 c = search needs
+
+enum-told-17 : tie.Need-enum-told-17
+enum-told-17 c = search needs
 
 returns : tie.Need-returns
 returns c = simp (c .enum-told .given .1)
@@ -83,37 +77,37 @@ returns-7 : tie.Need-returns-7
 returns-7 c = simp (c .enum-told7 .given .1)
 
 returns-8 : tie.Need-returns-8
-returns-8 c = simp (c .busy-to-set .ensures, c .before .before .c .given .1)
+returns-8 c = simp (c .enum-told8 .given .1)
 
 returns-9 : tie.Need-returns-9
-returns-9 c = simp (c .enum-told8 .given .1)
+returns-9 c = simp (c .enum-told9 .given .1)
 
 returns-10 : tie.Need-returns-10
-returns-10 c = simp (c .enum-told9 .given .1)
+returns-10 c = simp (c .enum-told10 .given .1)
 
 returns-11 : tie.Need-returns-11
-returns-11 c = simp (c .enum-told10 .given .1)
+returns-11 c = simp (c .enum-told11 .given .1)
 
 returns-12 : tie.Need-returns-12
-returns-12 c = simp (c .enum-told11 .given .1)
+returns-12 c = simp (c .enum-told12 .given .1)
 
 returns-13 : tie.Need-returns-13
-returns-13 c = simp (c .enum-told12 .given .1)
+returns-13 c = simp (c .enum-told13 .given .1)
 
 returns-14 : tie.Need-returns-14
-returns-14 c = simp (c .enum-told13 .given .1)
+returns-14 c = simp (c .enum-told14 .given .1)
 
 returns-15 : tie.Need-returns-15
-returns-15 c = simp (c .moving .ensures, c .before .enum-told14 .given .1)
+returns-15 c = simp (c .enum-told15 .given .1)
 
 returns-16 : tie.Need-returns-16
-returns-16 c = simp (c .enum-told15 .given .1)
+returns-16 c = simp (c .enum-told16 .given .1)
 
 returns-17 : tie.Need-returns-17
-returns-17 c = simp (c .enum-told16 .given .1)
+returns-17 c = simp (c .enum-told17 .given .1)
 
-pub busy-spec : {M : Type 1} → statement M
-busy-spec =
+pub only-shows-spec : {M : Type 1} → statement M
+only-shows-spec =
     tie.close
     (tie.spec
     enum-told
@@ -123,8 +117,6 @@ busy-spec =
     enum-told-5
     enum-told-6
     enum-told-7
-    enum-known-c
-    busy-to-set-requires
     enum-told-8
     enum-told-9
     enum-told-10
@@ -132,9 +124,9 @@ busy-spec =
     enum-told-12
     enum-told-13
     enum-told-14
-    moving-requires
     enum-told-15
     enum-told-16
+    enum-told-17
     returns
     returns-2
     returns-3
