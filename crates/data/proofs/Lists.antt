@@ -2,15 +2,17 @@
 -- Assumes nothing.
 use mathlib.Core.Path.{_≡_, refl, sym, ap, _∙_}
 use mathlib.Core.Logic.{⊎-elim}
-use mathlib.Core.Bool.{Bool, true, false, cond}
+use mathlib.Core.Bool.{Bool, true, false, cond, _&&_}
 use mathlib.Core.List.{List, [], _∷_, _++_, map}
 use Prim.Native.Nat.{ℕ, zero, suc, _+_, _-_, _/_, _%_, _≤_, _<_, min}
 use native.Mathlib.Omega.{arith}
 use native.Mathlib.Numerals.{add-one}
-use lib.Dec.{eqb}
+use lib.Dec.{eqb, ltb}
 use lib.ListN.{length, getD, take, drop, drop-of-length-le, length-take}
 use lib.Seq.{drop-cons, getD-take, take-all}
 use Rattle.laws.specs.Text.{space, text, spaced}
+use borrow.Author.Tests.{ltb-true, ltb-false}
+use Rattle.laws.proofs.Bools.{and-left}
 use Rattle.laws.proofs.Order.{lt-or-le, eq-or-ne}
 use Rattle.laws.proofs.Spaced.{trail, spaced-trail}
 use Rattle.units.specs.declared.Number.{Number}
@@ -95,5 +97,14 @@ module _ (l v : List ℕ) (t : List (List ℕ)) (head : v ≡ headWord (cut l)) 
       take-nothing : (k : ℕ) → take {A = List ℕ} k [] ≡ []
       take-nothing k = take-all k [] (omega arith)
 
-pub echo-end : (ws : List (List ℕ)) (left : ℕ) → left ≤ 0 → take left ws ≡ []
-echo-end ws left h = let e : left ≡ 0 = omega arith in rw e
+-- the loop's test: a word may be left, and bytes are
+pub echo-more : (left place n : ℕ) → (ltb 0 left && ltb place n) ≡ true → 0 < left
+echo-more left place n h = ltb-true 0 left (and-left (ltb 0 left) (ltb place n) h)
+
+pub echo-end : (s : List ℕ) (left place : ℕ) → (ltb 0 left && ltb place (length s)) ≡ false → take left (cut (drop place s)) ≡ []
+unfolding cut
+echo-end s left place h = go (ltb 0 left) refl h
+  where
+    go : (b : Bool) → ltb 0 left ≡ b → (b && ltb place (length s)) ≡ false → take left (cut (drop place s)) ≡ []
+    go false e h = let z : left ≡ 0 = omega (arith, ltb-false 0 left e) in rw z
+    go true e h = rw (drop-of-length-le s (ltb-false place (length s) h)) (take-all left [] (omega arith))

@@ -2,10 +2,10 @@
 -- Assumes nothing.
 use mathlib.Core.Path.{_≡_, refl, sym, ap, _∙_}
 use mathlib.Core.List.{List, [], _∷_, _++_}
-use Prim.Native.Nat.{ℕ, zero, suc, _+_, _-_, _≤_, _<_, min}
+use Prim.Native.Nat.{ℕ, zero, suc, _+_, _-_, _*_, _≤_, _<_, min}
 use native.Mathlib.Omega.{arith}
 use lib.Dec.{eqb}
-use lib.ListN.{length, getD, drop, drop-of-length-le}
+use lib.ListN.{length, getD, take, drop, drop-of-length-le}
 use borrow.Author.Tests.{eq-eqb, ne-eqb}
 use Rattle.laws.specs.Text.{space, text}
 use Rattle.words.specs.Cutting.{isSpace, noSpace, grow, cut, headWord}
@@ -14,8 +14,8 @@ use Rattle.data.specs.Data.{refusals, nameIn, refusalName}
 use Rattle.data.specs.Parts.{warningAt, nameIf, wordIf}
 
 -- ---- the tables of names that the code looks into
-pub warning-word : (k j : ℕ) → j ≡ min k 8 → headWord (drop j (cut (text "FD FQ FS FT FB FP FE WR --"))) ≡ warningAt k
-unfolding warningAt warningNames text cut isSpace noSpace grow headWord
+pub warning-word : (k j : ℕ) → j ≡ min k 8 → take 2 (drop (3 * j) (text "FD FQ FS FT FB FP FE WR --")) ≡ warningAt k
+unfolding warningAt warningNames text
 warning-word zero j e = let q : j ≡ 0 = omega arith in rw q
 warning-word (suc zero) j e = let q : j ≡ 1 = omega arith in rw q
 warning-word (suc (suc zero)) j e = let q : j ≡ 2 = omega arith in rw q

@@ -1,9 +1,9 @@
 // Writes a reply's data into a lent buffer: values, the list of warnings, the words of an echo, a refusal's name.
 // specs/Data.antt says each of these texts; specs/Parts.antt those of the inner writers.
 ghost use mathlib.Core.Path.{_≡_};
-ghost use Prim.Native.Nat.{min};
+ghost use Prim.Native.Nat.{_+_, _≤_, min};
 ghost use lib.Dec.{eqb};
-ghost use lib.ListN.{take, drop};
+ghost use lib.ListN.{length, take, drop};
 ghost use Rattle.words.specs.Cutting.{cut};
 ghost use Rattle.wire.specs.Wrote.{Wrote};
 ghost use Rattle.data.specs.Data.{warningList, echoed, refusalName};
@@ -19,12 +19,21 @@ pub fn lesser(a: usize, b: usize) -> usize
     if a < b { a } else { b }
 }
 
-// The name of the warning at a place from 0, or `--`.
+// The two bytes from a place on.
+fn two_from(s: &[u8], start: usize) -> &[u8]
+    requires { ⌜ start + 2 ≤ length (now s) ⌝ }
+    ensures { λ r. ⌜ now r ≡ take 2 (drop start (now (s .entry))) ⌝ }
+{
+    let end = start + 2;
+    &s[start..end]
+}
+
+// The name of the warning at a place from 0, or `--`: two letters, and a space between two names.
 pub fn put_warning(buf: &mut [u8], at: usize, place: u32) -> usize
     ensures { λ r. ⌜ Wrote (now (buf .entry)) at (warningAt place) (now (buf .exit)) r ⌝ }
 {
     let k = lesser(place as usize, 8);
-    put_text(buf, at, words::nth_word(b"FD FQ FS FT FB FP FE WR --", k))
+    put_text(buf, at, two_from(b"FD FQ FS FT FB FP FE WR --", 3 * k))
 }
 
 // The name of a refusal that is replied; no other number has one.
@@ -95,7 +104,7 @@ pub fn put_echo(buf: &mut [u8], at: usize, s: &[u8], from: usize) -> usize
     let mut next = put_text(buf, at, first);
     let mut place = words::past_word(s, from);
     let mut left: usize = 16;
-    while 0 < left {
+    while (0 < left) & (place < s.len()) {
         next = put_word(buf, next, words::first_word(s, place));
         place = words::past_word(s, place);
         left -= 1;

@@ -4,13 +4,13 @@ use borrow.Author.Needs.{needs}
 use mathlib.Core.Path.{_≡_}
 use Prim.Native.Nat.{_≤_, _-_}
 use native.Mathlib.Omega.{arith}
-use lib.ListN.{take, drop}
+use lib.ListN.{length, take, drop}
 use Rattle.laws.specs.Text.{text}
 use Rattle.laws.proofs.Spaced.{trail}
 use Rattle.words.specs.Cutting.{cut}
 use Rattle.wire.proofs.Wrote.{_▸_, wrote-length}
 use Rattle.data.proofs.Writing.{Writing, writing-first, writing-end}
-use Rattle.data.proofs.Lists.{echo-none, echo-some, echo-turn, echo-end}
+use Rattle.data.proofs.Lists.{echo-none, echo-some, echo-turn, echo-more, echo-end}
 use Rattle.data.proofs.put_echo.Statement.{statement}
 use Rattle.data.proofs.put_echo.Tie as tie
 use Rattle.data.proofs.put_echo.Reads as reads
@@ -62,22 +62,26 @@ past-word-requires-2 : tie.Need-past-word-requires-2 Inv-loop μ-loop
 past-word-requires-2 c κs = search needs
 
 sub-left : tie.Need-sub-left Inv-loop μ-loop
-sub-left c = omega arith
+sub-left c =
+    let turn = c .before .before .before .before .before .before in
+    omega (arith, echo-more (turn .before .loop .left) (turn .before .loop .place) (length (turn .before .before .before .before .before .before .before .before .before .before .before .args .s .now)) (turn .loop-test .taken))
 
 loop-less : tie.Need-loop-less Inv-loop μ-loop
-loop-less c = omega arith
+loop-less c =
+    let turn = c .before .before .before .before .before .before in
+    omega (arith, echo-more (turn .before .loop .left) (turn .before .loop .place) (length (turn .before .before .before .before .before .before .before .before .before .before .before .args .s .now)) (turn .loop-test .taken))
 
 loop-again : tie.Need-loop-again Inv-loop μ-loop
 loop-again c =
     let word = c .before .before .before in
     let turn = word .before .before .before in
-    echo-turn _ _ _ (word .before .first-word2 .ensures) (c .past-word2 .ensures .1) _ (turn .loop-test .taken) (turn .before .loop .inv) (word .put-word .ensures)
+    echo-turn _ _ _ (word .before .first-word2 .ensures) (c .past-word2 .ensures .1) _ (echo-more (turn .before .loop .left) (turn .before .loop .place) (length (turn .before .before .before .before .before .before .before .before .before .before .before .args .s .now)) (turn .loop-test .taken)) (turn .before .loop .inv) (word .put-word .ensures)
 
 returns-2 : tie.Need-returns-2 Inv-loop μ-loop
 returns-2 c =
     let text = c .before .before .before .before .before in
     rw (echo-some _ _ _ (text .before .before .before .first-word .ensures) (c .before .before .past-word .ensures .1) (text .before .before .if1 .left))
-    (text .put-text .ensures ▸ writing-end (rw (echo-end _ _ (c .loop-test .left)) at (c .before .loop .inv)))
+    (text .put-text .ensures ▸ writing-end (rw (echo-end (c .before .before .before .before .before .before .before .before .before .before .before .args .s .now) (c .before .loop .left) (c .before .loop .place) (c .loop-test .left)) at (c .before .loop .inv)))
 
 same-length-2 : tie.Need-same-length-2 Inv-loop μ-loop
 same-length-2 c = wrote-length (returns-2 c)
