@@ -8,12 +8,11 @@ use Prim.Native.String.{String}
 use lib.IntN.{pos}
 use lib.ListN.{take, replicate}
 use Rattle.laws.specs.Text.{text}
-use Rattle.units.specs.Units.{position, number}
+use Rattle.units.specs.Units.{number}
 use Rattle.state.specs.declared.Device.{Device}
 use Rattle.state.specs.Record.{withAxes, fresh}
 use Rattle.axis.specs.declared.Axis.{Axis}
-use Rattle.axis.specs.Record.{freshAxis}
-use Rattle.carriage.specs.Step.{Stepped, step}
+use Rattle.carriage.specs.Step.{step}
 use Rattle.carriage.specs.Open.{answering}
 
 -- "fresh, address 1, two axes"; "Homed" is both axes homed at 0

@@ -1,12 +1,11 @@
 -- On a good record the data of every reply fits: 74 bytes at most.
 -- Assumes nothing.
-use mathlib.Core.Path.{_≡_, refl, sym, ap, subst, _∙_}
+use mathlib.Core.Path.{_≡_, refl}
 use mathlib.Core.Logic.{⊎-elim}
-use mathlib.Core.Bool.{Bool, true, false, cond, _&&_}
+use mathlib.Core.Bool.{Bool, true, false, cond}
 use mathlib.Core.List.{List, [], _∷_, map}
 use Prim.Native.Nat.{ℕ, zero, suc, _+_, _-_, _≤_, _<_}
 use native.Mathlib.Omega.{arith}
-use lib.Dec.{eqb, ltb}
 use lib.IntN.{ℤ, pos, negsuc}
 use lib.ListN.{length, getD, take, drop, length-take, length-map}
 use borrow.Author.Tests.{eq-eqb, ne-eqb, ltb-false}
@@ -54,7 +53,7 @@ use Rattle.view.specs.declared.Value.{Value}
 use Rattle.view.specs.declared.Value.the-variants as Value
 use Rattle.words.specs.Cutting.{cut}
 use Rattle.phrase.specs.Reading.{isEcho, echoOf}
-use Rattle.shown.specs.Data.{settingData, parkedData, shownBy, textOf, dataOf}
+use Rattle.shown.specs.Data.{parkedData, shownBy, textOf, dataOf}
 use Rattle.shown.specs.declared.Shown.{Shown}
 use Rattle.shown.specs.declared.Shown.the-variants as Shown
 

@@ -1,17 +1,16 @@
 -- The replies of a good record: their parts, written one behind the other, are the whole reply.
 -- Assumes nothing.
-use mathlib.Core.Path.{_≡_, refl, sym, ap, _∙_}
+use mathlib.Core.Path.{_≡_, refl, ap}
 use mathlib.Core.Logic.{⊎-elim}
-use mathlib.Core.Bool.{Bool, true, false, cond, not, _&&_}
-use mathlib.Core.List.{List, [], _∷_, _++_}
+use mathlib.Core.Bool.{Bool, true, _&&_}
+use mathlib.Core.List.{List, _++_}
 use Prim.Native.Nat.{ℕ, _+_, _≤_, _<_}
 use native.Mathlib.Omega.{arith}
-use lib.Dec.{eqb, leb}
 use lib.IntN.{pos}
 use lib.Signed.{leZ}
 use lib.ListN.{length, take, drop}
 use borrow.Author.Tests.{le-leb, lt-leb, leb-true}
-use Rattle.laws.specs.Lists.{fold, all, any}
+use Rattle.laws.specs.Lists.{fold, all}
 use Rattle.laws.specs.Text.{text}
 use Rattle.laws.proofs.Order.{lt-or-le}
 use Rattle.laws.proofs.Bools.{and-left, and-right}
@@ -21,20 +20,14 @@ use Rattle.command.specs.declared.Command.{Command}
 use Rattle.command.specs.declared.Command.the-variants.{Nothing, Home, Stop, Estop, MoveTo, MoveVel, Get, Set, Storepos, StoreposAt, StoreposCurrent, Warnings, WarningsClear, ParkingState, Park, Unpark, Echo}
 use Rattle.command.specs.Settings.{deviceSettings}
 use Rattle.wire.specs.Wrote.{Wrote}
-use Rattle.axis.specs.Record.{moving}
-use Rattle.axis.specs.Good.{goodAxis}
 use Rattle.state.specs.declared.Device.{Device}
-use Rattle.state.specs.Record.{axesOf, onAxes}
+use Rattle.state.specs.Record.{onAxes}
 use Rattle.state.specs.Good.{inRange, good}
 use Rattle.device.specs.Effects.{next}
-use Rattle.data.specs.Data.{refusalName}
-use Rattle.data.proofs.Lengths.{refusal-length}
-use Rattle.reply.specs.Reply.{body, ending, reply}
+use Rattle.reply.specs.Reply.{body, ending}
 use Rattle.reply.proofs.Room.{reply-done}
-use Rattle.reply.specs.declared.Head.{Head}
 use Rattle.view.specs.View.{shownAxis, headOf}
-use Rattle.carriage.specs.declared.Answer.{Answer}
-use Rattle.carriage.specs.Step.{Stepped, Gives, written, wantsSum, replyOf, rejected, accepted}
+use Rattle.carriage.specs.Step.{Gives, written, wantsSum, replyOf}
 
 -- "system.axiscount ... 1 to 4"
 pub good-count : (d : Device) → good d ≡ true → d .count ≤ 4

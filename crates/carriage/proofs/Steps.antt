@@ -2,14 +2,14 @@
 -- Assumes nothing.
 use mathlib.Core.Path.{_≡_, refl, sym, ap, subst, _∙_}
 use mathlib.Core.Bool.{Bool, true, false, cond, not}
-use mathlib.Core.List.{List, [], _∷_}
+use mathlib.Core.List.{List, []}
 use Prim.Native.Nat.{ℕ, _+_, _-_, _≤_, _<_}
 use native.Mathlib.Omega.{arith}
 use lib.Dec.{eqb, ltb}
 use lib.ListN.{length, take, drop, length-take}
 use lib.Seq.{drop-drop}
 use borrow.Author.Tests.{lt-ltb, le-ltb, eq-eqb, ne-eqb}
-use Rattle.laws.specs.Refusals.{_when_, firstOf}
+use Rattle.laws.specs.Refusals.{firstOf}
 use Rattle.words.specs.Cutting.{cut, headWord, tailWords}
 use Rattle.number.specs.Reading.{readAddress}
 use Rattle.number.specs.declared.UnsignedRead.{UnsignedRead}
@@ -30,7 +30,7 @@ use Rattle.device.specs.Refusals.{refusal}
 use Rattle.data.specs.Data.{echoed}
 use Rattle.shown.specs.Data.{dataOf}
 use Rattle.carriage.specs.declared.Answer.{Answer}
-use Rattle.carriage.specs.Step.{Stepped, Gives, silent, rejected, accepted, obeyed, concerns, addressed, answered, silence, respond, step}
+use Rattle.carriage.specs.Step.{Stepped, Gives, silent, rejected, accepted, obeyed, concerns, addressed, silence, respond, step}
 
 pub gives-as : {s t : Stepped} {r : Answer} {c : List ℕ} → s ≡ t → Gives s r c → Gives t r c
 gives-as {r = r} {c = c} e g = subst (λ (x : Stepped). Gives x r c) e g

@@ -10,7 +10,7 @@ ghost use Rattle.line.specs.Reading.{readWords};
 ghost use Rattle.state.specs.Good.{good as goodOf};
 ghost use Rattle.device.specs.Refusals.{refusal as refusalOf};
 ghost use Rattle.carriage.specs.Report.{report as reportOf};
-ghost use Rattle.carriage.specs.Step.{Gives, silent as silentOf, rejected, accepted, obeyed, wantsSum, concerns as concernsOf, addressed as addressedTo, respond, step as stepOf};
+ghost use Rattle.carriage.specs.Step.{Gives, rejected, accepted, obeyed, wantsSum, concerns as concernsOf, addressed as addressedTo, respond, step as stepOf};
 use command::Command;
 use device::effects::next;
 use device::refusals::refusal;

@@ -1,10 +1,10 @@
 -- How long a reply's data can be: values, the list of warnings, the words of an echo, a refusal's name.
 -- Assumes nothing.
-use mathlib.Core.Path.{_≡_, refl, sym, ap, subst, _∙_}
+use mathlib.Core.Path.{_≡_, refl, sym, subst}
 use mathlib.Core.Logic.{⊎-elim}
 use mathlib.Core.Bool.{Bool, true, false, cond}
-use mathlib.Core.List.{List, [], _∷_, _++_, map}
-use Prim.Native.Nat.{ℕ, zero, suc, _+_, _*_, _≤_, _<_}
+use mathlib.Core.List.{List, [], _∷_}
+use Prim.Native.Nat.{ℕ, zero, suc, _+_, _*_, _≤_}
 use native.Mathlib.Omega.{arith}
 use lib.Dec.{eqb, leb→le}
 use lib.ListN.{length, take, drop, length-append}
@@ -18,8 +18,8 @@ use Rattle.number.specs.Decimal.{decimal, twoDigits}
 use Rattle.words.specs.Cutting.{begins, grow, cut}
 use Rattle.words.proofs.Space.{other-yes, other-not}
 use Rattle.words.proofs.Cut.{cut-none, cut-space, cut-inside, cut-alone}
-use Rattle.flags.specs.Flags.{bits, named, count, warningNames}
-use Rattle.data.specs.Data.{values, warningsIn, warningList, echoed, Named, refusals, nameIn, refusalName}
+use Rattle.flags.specs.Flags.{bits, named, warningNames}
+use Rattle.data.specs.Data.{values, warningList, echoed, Named, refusals, nameIn, refusalName}
 use Rattle.data.proofs.Lists.{decimals, list-split}
 
 -- ---- values: each of at most 11 bytes, behind a space

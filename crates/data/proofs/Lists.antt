@@ -1,19 +1,19 @@
 -- The loops of `put_values`, `put_warnings` and `put_echo`: which words are left at each turn.
 -- Assumes nothing.
-use mathlib.Core.Path.{_≡_, refl, sym, ap, _∙_}
+use mathlib.Core.Path.{_≡_, refl, _∙_}
 use mathlib.Core.Logic.{⊎-elim}
 use mathlib.Core.Bool.{Bool, true, false, cond, _&&_}
 use mathlib.Core.List.{List, [], _∷_, _++_, map}
-use Prim.Native.Nat.{ℕ, zero, suc, _+_, _-_, _/_, _%_, _≤_, _<_, min}
+use Prim.Native.Nat.{ℕ, zero, suc, _+_, _-_, _/_, _%_, _≤_, _<_}
 use native.Mathlib.Omega.{arith}
 use native.Mathlib.Numerals.{add-one}
 use lib.Dec.{eqb, ltb}
-use lib.ListN.{length, getD, take, drop, drop-of-length-le, length-take}
-use lib.Seq.{drop-cons, getD-take, take-all}
-use Rattle.laws.specs.Text.{space, text, spaced}
+use lib.ListN.{length, getD, take, drop, drop-of-length-le}
+use lib.Seq.{drop-cons, take-all}
+use Rattle.laws.specs.Text.{text, spaced}
 use borrow.Author.Tests.{ltb-true, ltb-false}
 use Rattle.laws.proofs.Bools.{and-left}
-use Rattle.laws.proofs.Order.{lt-or-le, eq-or-ne}
+use Rattle.laws.proofs.Order.{eq-or-ne}
 use Rattle.laws.proofs.Spaced.{trail, spaced-trail}
 use Rattle.units.specs.declared.Number.{Number}
 use Rattle.number.specs.Decimal.{decimal, twoDigits}
@@ -22,11 +22,10 @@ use Rattle.words.proofs.Cut.{word-none, word-some}
 use Rattle.flags.specs.Flags.{bits, named, count, warningNames}
 use Rattle.flags.proofs.Names.{warnings-number}
 use Rattle.wire.specs.Wrote.{Wrote}
-use Rattle.wire.proofs.Wrote.{_▸_}
 use Rattle.data.specs.Data.{values, warningsIn, warningList, echoed}
 use Rattle.data.specs.Parts.{warningAt, nameIf, wordIf}
 use Rattle.data.proofs.Parts.{word-yes, word-no}
-use Rattle.data.proofs.Writing.{Writing, writing-if, writing-more, writing-none, writing-end}
+use Rattle.data.proofs.Writing.{Writing, writing-if, writing-more, writing-none}
 
 -- ---- values
 unfoldable pub decimals : List Number → List (List ℕ)

@@ -1,7 +1,7 @@
 -- A good record stays good under every command and every motor report.
 -- It has four axis places, as every device record has.
 use mathlib.Core.Path.{_≡_, refl, ap}
-use mathlib.Core.Bool.{Bool, true, false, cond, not, _&&_}
+use mathlib.Core.Bool.{Bool, true, false, not, _&&_}
 use Prim.Native.Nat.{ℕ, _-_, _<_}
 use native.Mathlib.Decide.{ℕ-discrete}
 use native.Mathlib.Omega.{arith}
@@ -24,7 +24,7 @@ use Rattle.orders.specs.Commands.{demands, axisAfter}
 use Rattle.orders.proofs.GoodStays.{after-good, after-still}
 use Rattle.state.specs.Record.{many, axesOf, onAxes, put, withParked}
 use Rattle.state.specs.Good.{inRange, good}
-use Rattle.device.specs.Types.{Number, DeviceSetting, CommAddress, CommAlert, CommChecksum, SystemAccess, DeviceId, SystemAxisCount, OfAxis, OfDevice, Command, Nothing, Home, Stop, Estop, MoveTo, MoveVel, Get, Set, Storepos, StoreposAt, StoreposCurrent, Warnings, WarningsClear, ParkingState, Park, Unpark, Echo, Axis, Report, MovingAt, StoppedAt, HomeReached, Raised, DriverNormal, Unknown, Device}
+use Rattle.device.specs.Types.{Number, DeviceSetting, CommAddress, CommAlert, CommChecksum, SystemAccess, DeviceId, SystemAxisCount, OfAxis, OfDevice, Command, Nothing, Home, Stop, Estop, MoveTo, MoveVel, Get, Set, Storepos, StoreposAt, StoreposCurrent, Warnings, WarningsClear, ParkingState, Park, Unpark, Echo, Axis, Report, Device}
 use Rattle.device.specs.Refusals.{deviceOnly, parked, statusBusy, refusal}
 use Rattle.device.specs.Effects.{next, obey}
 use Rattle.device.specs.Reports.{report}

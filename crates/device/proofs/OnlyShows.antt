@@ -4,7 +4,6 @@ use mathlib.Core.Path.{_≡_, refl, ap, _∙_}
 use mathlib.Core.Bool.{true, false, not}
 use mathlib.Core.List.{List}
 use Prim.Native.Nat.{ℕ, _-_}
-use Rattle.laws.specs.Lists.{all}
 use Rattle.laws.proofs.Bools.{clash}
 use Rattle.laws.proofs.Walks.{all-alike, change-same}
 use Rattle.axis.specs.Record.{freshAxis}

@@ -1,6 +1,6 @@
 -- Warnings as a list of flags, the highest first, and as a mask, whose bit 0 is the highest.
 -- "Warnings, highest first: FD FQ FS FT FB FP FE WR. WR is active exactly when the axis has no reference."
-use mathlib.Core.Bool.{Bool, true, false, cond, _||_}
+use mathlib.Core.Bool.{Bool, false, cond, _||_}
 use mathlib.Core.List.{List, [], _∷_, _++_, map}
 use Prim.Native.Nat.{ℕ, zero, suc, _+_, _*_, _/_, _%_}
 use lib.Dec.{eqb}

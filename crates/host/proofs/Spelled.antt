@@ -8,7 +8,7 @@ use Prim.Native.Nat.{ℕ, zero, suc, _≤_, _<_}
 use native.Mathlib.Omega.{arith}
 use lib.Dec.{eqb, leb}
 use lib.ListN.{length, getD, take, drop}
-use borrow.Author.Tests.{eq-eqb, ne-eqb, eqb-true, eqb-false, le-leb, leb-true, not-true}
+use borrow.Author.Tests.{eq-eqb, ne-eqb, eqb-false, le-leb, leb-true, not-true}
 use Rattle.laws.specs.Lists.{span}
 use Rattle.laws.specs.Text.{text, same}
 use Rattle.laws.proofs.Order.{eq-or-ne}

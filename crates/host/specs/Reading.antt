@@ -1,6 +1,6 @@
 -- How the host reads a reply: marks and fields at fixed places, the data behind them, and the end behind the data.
 -- "The host reads exactly this form ... Otherwise NOTREPLY."
-use mathlib.Core.Bool.{Bool, false, cond, not, _&&_, _||_}
+use mathlib.Core.Bool.{Bool, cond, not, _&&_, _||_}
 use mathlib.Core.List.{List, [], _∷_}
 use Prim.Native.Nat.{ℕ, _+_, _*_}
 use lib.Dec.{eqb, ltb, leb}

@@ -8,7 +8,7 @@ use Prim.Native.Nat.{ℕ, _≤_, _<_}
 use native.Mathlib.Omega.{arith}
 use lib.ListN.{length, getD, take, drop, length-take, take-append-drop}
 use lib.Seq.{take-append-seam, drop-append-seam, take-take}
-use borrow.Author.Tests.{eq-eqb, ne-eqb, eqb-true}
+use borrow.Author.Tests.{eq-eqb, ne-eqb}
 use Rattle.laws.specs.Lists.{span}
 use Rattle.laws.specs.Text.{text}
 use Rattle.laws.proofs.Order.{lt-or-le, eq-or-ne}

@@ -1,7 +1,7 @@
 -- Body and footer of a line as specs/Refusals.antt finds them, from its end; and that a line is so parted exactly where 1 does not refuse it.
 -- Assumes nothing.
 use mathlib.Core.Path.{_≡_, refl, ap, _∙_}
-use mathlib.Core.Bool.{Bool, true, false, cond, not}
+use mathlib.Core.Bool.{Bool, true, false, cond}
 use mathlib.Core.List.{List, [], _∷_, _++_}
 use Prim.Native.Nat.{ℕ, suc, _+_, _-_, _≤_, _<_}
 use native.Mathlib.Omega.{arith}
@@ -13,9 +13,8 @@ use Rattle.laws.specs.Lists.{all}
 use Rattle.laws.proofs.Bools.{clash, or-left, or-right}
 use Rattle.laws.proofs.Passes.{Passes, pass-head, passes-all, all-passes}
 use Rattle.line.specs.Spelling.{Footer}
-use Rattle.line.specs.Reading.{printable, isEnd, parted}
+use Rattle.line.specs.Reading.{printable, isEnd}
 use Rattle.line.specs.Refusals.{footerSize, body, notLine}
-use Rattle.line.specs.declared.Frame.the-variants as Frame
 use Rattle.line.proofs.Frames.{low, between}
 use Rattle.line.proofs.Composed.{end-yes, end-low, end-of}
 

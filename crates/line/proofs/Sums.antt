@@ -2,7 +2,7 @@
 -- Assumes nothing.
 use mathlib.Core.Path.{_≡_, refl, sym, ap, _∙_}
 use mathlib.Core.Logic.{⊎-elim}
-use mathlib.Core.Bool.{Bool, true, false, not}
+use mathlib.Core.Bool.{Bool, true, false}
 use mathlib.Core.List.{List}
 use Prim.Native.Nat.{ℕ, suc, _+_, _-_, _≤_, _<_}
 use native.Mathlib.Omega.{arith}
@@ -17,7 +17,7 @@ use Rattle.laws.proofs.Span.{span-not, span-le}
 use Rattle.laws.proofs.Passes.{Passes, pass-append, front-passes, passes-all, all-passes}
 use Rattle.number.specs.Reading.{readPair, saysSum}
 use Rattle.line.specs.Reading.{noColon, parted}
-use Rattle.line.specs.Refusals.{body, checksumRight, badSum, content}
+use Rattle.line.specs.Refusals.{checksumRight, badSum, content}
 use Rattle.line.specs.declared.Frame.{Frame}
 use Rattle.line.specs.declared.Frame.the-variants as Frame
 use Rattle.line.proofs.Frames.{colon-not, no-sum, not-3, sum-is}

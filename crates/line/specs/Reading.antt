@@ -1,9 +1,9 @@
 -- How a line is read, with the refusals 2, 1, 3, 4, 10 and 11 in document 01's order, "with address and axis beside 10 and 11".
 -- The refusals are said apart from this in specs/Refusals.antt, and the two agree.
-use mathlib.Core.Bool.{Bool, true, false, cond, not, _&&_, _||_}
+use mathlib.Core.Bool.{Bool, false, cond, not, _&&_, _||_}
 use mathlib.Core.List.{List, [], _∷_}
 use mathlib.Core.Option.{Option, none, some}
-use Prim.Native.Nat.{ℕ, _+_}
+use Prim.Native.Nat.{ℕ}
 use lib.Dec.{eqb, ltb, leb}
 use lib.ListN.{take, drop, length}
 use Rattle.laws.specs.Lists.{span}
@@ -13,7 +13,6 @@ use Rattle.number.specs.declared.UnsignedRead.{UnsignedRead}
 use Rattle.number.specs.declared.UnsignedRead.the-variants as Unsigned
 use Rattle.words.specs.Cutting.{cut, headWord, tailWords}
 use Rattle.phrase.specs.Reading.{readCommand, echoOf}
-use Rattle.phrase.specs.declared.WordsRead.{WordsRead}
 use Rattle.phrase.specs.declared.WordsRead.the-variants as Words
 use Rattle.line.specs.declared.Frame.{Frame}
 use Rattle.line.specs.declared.Frame.the-variants as Frame

@@ -1,6 +1,6 @@
 -- A line for each command that can be spelled: two address digits, the axis digit, single spaces, decimal numbers and LF.
 -- Nothing here says how a line is read.
-use mathlib.Core.List.{List, [], _∷_, _++_}
+use mathlib.Core.List.{List, _∷_, _++_}
 use Prim.Native.Nat.{ℕ, _≤_}
 use Rattle.laws.specs.Text.{text, spaced}
 use Rattle.number.specs.Decimal.{twoDigits, digits}

@@ -24,7 +24,7 @@ use Rattle.phrase.specs.declared.SettingRead.the-variants.{Is, Unknown}
 use Rattle.phrase.specs.declared.WordsRead.the-variants.{Refused}
 use Rattle.phrase.specs.Reading.{ended, made, oneNumber, readMove, readSetting, readGet, readSet, readStorepos, readParking, readTools, readWarnings, readCommand}
 use Rattle.phrase.specs.declared.WordsRead.{WordsRead}
-use Rattle.phrase.specs.Refusals.{number, word, stands, beginSo, justSo, isNumber, badCommand, badData, wordsNumber, wordsRefusal}
+use Rattle.phrase.specs.Refusals.{number, beginSo, justSo, isNumber, badCommand, badData, wordsNumber, wordsRefusal}
 
 -- the number that the table gives
 abbrev given : Bool → Bool → ℕ

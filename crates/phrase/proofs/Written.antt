@@ -10,7 +10,6 @@ use lib.IntN.{ℤ}
 use borrow.Author.Tests.{leb-true, eqb-false, not-true}
 use Rattle.laws.proofs.Each.{Each}
 use Rattle.laws.specs.Text.{text}
-use Rattle.laws.specs.Lists.{all}
 use Rattle.laws.proofs.Bools.{and-left, and-right}
 use Rattle.number.specs.Spelling.{Digit, figure, capital, small, Digits, UnsignedWord, decimal, hex, NumberWord, bare, plus, minus}
 use Rattle.number.proofs.Decimal.{decimal-spelled}

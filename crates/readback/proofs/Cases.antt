@@ -4,7 +4,6 @@ use mathlib.Core.Path.{_≡_, refl}
 use mathlib.Core.Bool.{Bool, true, false}
 use mathlib.Core.List.{List, [], _∷_, _++_, map}
 use Prim.Native.Nat.{ℕ}
-use Prim.Native.String.{String}
 use lib.IntN.{pos, negsuc}
 use lib.ListN.{replicate, take}
 use Rattle.laws.specs.Lists.{fold}
@@ -17,7 +16,7 @@ use Rattle.words.specs.Cutting.{isSpace, noSpace, grow, cut}
 use Rattle.command.specs.Settings.{nameOf}
 use Rattle.phrase.specs.Types.{OfAxis, OfDevice, Pos, DeviceId, Abs, Stored, Command, Nothing, Home, MoveTo, Set, Echo}
 use Rattle.host.specs.Reading.{dataByte}
-use Rattle.writer.specs.Writing.{lineWords, lineEnd, lineText, unspellable, writerRefusal, Outcome, outcome, writeLine}
+use Rattle.writer.specs.Writing.{lineWords, lineEnd, lineText, unspellable, writerRefusal, Outcome, writeLine}
 
 -- address, axis, command, message, checksum, and the buffer's length; the number, and the line or nothing
 pub record Row : Type 0 where

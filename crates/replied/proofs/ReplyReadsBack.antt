@@ -13,7 +13,6 @@ use Rattle.phrase.specs.Reading.{echoOf}
 use Rattle.line.specs.Reading.{wordsOf}
 use Rattle.state.specs.declared.Device.{Device}
 use Rattle.state.specs.Good.{good}
-use Rattle.device.specs.Refusals.{refusal}
 use Rattle.device.specs.Effects.{next}
 use Rattle.data.specs.Data.{refusalName}
 use Rattle.data.proofs.Lengths.{refusal-length}

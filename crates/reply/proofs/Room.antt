@@ -1,14 +1,13 @@
 -- A reply has 22 bytes besides its data at most, so with data of at most 74 bytes it never exceeds 96, and nothing of it is cut.
 -- Assumes nothing.
-use mathlib.Core.Path.{_≡_, refl, sym, ap, subst, _∙_}
+use mathlib.Core.Path.{_≡_, refl, ap, subst, _∙_}
 use mathlib.Core.Bool.{Bool, true, false}
-use mathlib.Core.List.{List, [], _∷_, _++_, append-assoc}
+use mathlib.Core.List.{List, _++_, append-assoc}
 use Prim.Native.Nat.{ℕ, zero, suc, _+_, _≤_, _<_}
 use native.Mathlib.Nat.{zero-add}
 use native.Mathlib.Omega.{arith}
 use lib.ListN.{length, take, drop, length-append}
-use Rattle.laws.specs.Text.{text, spaced}
-use Rattle.number.specs.Checksum.{checksum}
+use Rattle.laws.specs.Text.{text}
 use Rattle.number.specs.Decimal.{digits, twoDigits, hexPair}
 use Rattle.number.proofs.Decimal.{digits-length}
 use Rattle.wire.specs.Wrote.{Wrote}

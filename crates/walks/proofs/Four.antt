@@ -1,6 +1,6 @@
 -- Some neighbouring places of four, place by place: a place that is not one of them counts for nothing.
 -- Assumes that there are four places, which every device record has.
-use mathlib.Core.Path.{_≡_, refl, sym, ap, _∙_}
+use mathlib.Core.Path.{_≡_, refl, sym}
 use mathlib.Core.Bool.{Bool, true, false, cond, _&&_, _||_}
 use mathlib.Core.List.{List, [], _∷_}
 use Prim.Native.Nat.{ℕ, zero, suc, _+_, _≤_}

@@ -6,11 +6,6 @@ use Rattle.wire.proofs.Wrote.{wrote-inside}
 use borrow.Author.Needs.{needs}
 use Rattle.bench.proofs.main.Statement.{statement}
 use Rattle.bench.proofs.main.Tie as tie
-use Rattle.bench.proofs.main.Reads as reads
-use Rattle.bench.proofs.main.Lts as lts
-use Rattle.io.proofs.read_full.Reads as read-full-reads
-use Rattle.io.proofs.write_all.Reads as write-all-reads
-use Rattle.session.proofs.run.Reads as run-reads
 
 slice-aggregate-read-full : tie.Need-slice-aggregate-read-full
 slice-aggregate-read-full c = search needs

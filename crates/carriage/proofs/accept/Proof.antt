@@ -10,14 +10,6 @@ use Rattle.carriage.proofs.Steps.{echo-same, behind-two}
 use borrow.Author.Needs.{needs}
 use Rattle.carriage.proofs.accept.Statement.{statement}
 use Rattle.carriage.proofs.accept.Tie as tie
-use Rattle.carriage.proofs.accept.Reads as reads
-use Rattle.carriage.proofs.accept.Lts as lts
-use Rattle.carriage.proofs.wants_sum.Reads as wants-sum-reads
-use Rattle.device.proofs.effects.next.Reads as next-reads
-use Rattle.reply.proofs.put_end.Reads as put-end-reads
-use Rattle.reply.proofs.put_head.Reads as put-head-reads
-use Rattle.shown.proofs.put_data.Reads as put-data-reads
-use Rattle.view.proofs.head.Reads as head-reads
 
 next-requires : tie.Need-next-requires
 next-requires c κs = search needs

@@ -3,10 +3,6 @@
 use borrow.Author.Needs.{needs}
 use Rattle.carriage.proofs.addressed.Statement.{statement}
 use Rattle.carriage.proofs.addressed.Tie as tie
-use Rattle.carriage.proofs.addressed.Reads as reads
-use Rattle.carriage.proofs.addressed.Lts as lts
-use Rattle.carriage.proofs.obey.Reads as obey-reads
-use Rattle.carriage.proofs.reject.Reads as reject-reads
 
 enum-known-w : tie.Need-enum-known-w
 enum-known-w c = search needs

@@ -4,9 +4,6 @@ use Rattle.carriage.specs.Step.{concerns}
 use borrow.Author.Needs.{needs}
 use Rattle.carriage.proofs.concerns.Statement.{statement}
 use Rattle.carriage.proofs.concerns.Tie as tie
-use Rattle.carriage.proofs.concerns.Reads as reads
-use Rattle.carriage.proofs.concerns.Lts as lts
-use Rattle.units.proofs.Number.place.Reads as place-reads
 
 place-requires : tie.Need-place-requires
 place-requires c κs = search needs

@@ -6,12 +6,6 @@ use Rattle.carriage.proofs.Steps.{gives-as, silent-gives, respond-silen
 use borrow.Author.Needs.{needs}
 use Rattle.carriage.proofs.heard.Statement.{statement}
 use Rattle.carriage.proofs.heard.Tie as tie
-use Rattle.carriage.proofs.heard.Reads as reads
-use Rattle.carriage.proofs.heard.Lts as lts
-use Rattle.carriage.proofs.addressed.Reads as addressed-reads
-use Rattle.carriage.proofs.concerns.Reads as concerns-reads
-use Rattle.carriage.proofs.silent.Reads as silent-reads
-use Rattle.lineread.proofs.read_words.Reads as read-words-reads
 
 read-words-requires : tie.Need-read-words-requires
 read-words-requires c κs = search needs

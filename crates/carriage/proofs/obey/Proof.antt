@@ -5,11 +5,6 @@ use Rattle.carriage.proofs.Steps.{gives-as, obeyed-yes, obeyed-no}
 use borrow.Author.Needs.{needs}
 use Rattle.carriage.proofs.obey.Statement.{statement}
 use Rattle.carriage.proofs.obey.Tie as tie
-use Rattle.carriage.proofs.obey.Reads as reads
-use Rattle.carriage.proofs.obey.Lts as lts
-use Rattle.carriage.proofs.accept.Reads as accept-reads
-use Rattle.carriage.proofs.reject.Reads as reject-reads
-use Rattle.device.proofs.refusals.refusal.Reads as refusal-reads
 
 refusal-requires : tie.Need-refusal-requires
 refusal-requires c κs = search needs

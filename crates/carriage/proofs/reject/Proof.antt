@@ -7,13 +7,6 @@ use Rattle.carriage.proofs.Replies.{good-count, reply-gives}
 use borrow.Author.Needs.{needs}
 use Rattle.carriage.proofs.reject.Statement.{statement}
 use Rattle.carriage.proofs.reject.Tie as tie
-use Rattle.carriage.proofs.reject.Reads as reads
-use Rattle.carriage.proofs.reject.Lts as lts
-use Rattle.carriage.proofs.wants_sum.Reads as wants-sum-reads
-use Rattle.data.proofs.put_refusal.Reads as put-refusal-reads
-use Rattle.reply.proofs.put_end.Reads as put-end-reads
-use Rattle.reply.proofs.put_head.Reads as put-head-reads
-use Rattle.view.proofs.head.Reads as head-reads
 
 head-requires : tie.Need-head-requires
 head-requires c κs = search needs

@@ -4,10 +4,6 @@ use Rattle.carriage.specs.Report as Report
 use borrow.Author.Needs.{needs}
 use Rattle.carriage.proofs.report.Statement.{statement}
 use Rattle.carriage.proofs.report.Tie as tie
-use Rattle.carriage.proofs.report.Reads as reads
-use Rattle.carriage.proofs.report.Lts as lts
-use Rattle.device.proofs.motor.report.Reads as report-reads
-use Rattle.reports.proofs.report_of.Reads as report-of-reads
 
 report-of-requires : tie.Need-report-of-requires
 report-of-requires c κs = search needs

@@ -8,12 +8,6 @@ use Rattle.carriage.proofs.Steps.{gives-as, silent-gives, step-small, s
 use borrow.Author.Needs.{needs}
 use Rattle.carriage.proofs.step.Statement.{statement}
 use Rattle.carriage.proofs.step.Tie as tie
-use Rattle.carriage.proofs.step.Reads as reads
-use Rattle.carriage.proofs.step.Lts as lts
-use Rattle.carriage.proofs.heard.Reads as heard-reads
-use Rattle.carriage.proofs.silent.Reads as silent-reads
-use Rattle.frame.proofs.read_frame.Reads as read-frame-reads
-use Rattle.state.proofs.Device.good.Reads as good-reads
 
 silent-requires : tie.Need-silent-requires
 silent-requires c κs = search needs

@@ -4,9 +4,6 @@ use Rattle.carriage.specs.Step.{wantsSum}
 use borrow.Author.Needs.{needs}
 use Rattle.carriage.proofs.wants_sum.Statement.{statement}
 use Rattle.carriage.proofs.wants_sum.Tie as tie
-use Rattle.carriage.proofs.wants_sum.Reads as reads
-use Rattle.carriage.proofs.wants_sum.Lts as lts
-use Rattle.units.proofs.Number.place.Reads as place-reads
 
 place-requires : tie.Need-place-requires
 place-requires c κs = search needs

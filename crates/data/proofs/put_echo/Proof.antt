@@ -1,8 +1,7 @@
 -- `data::put_echo` meets its contract. Invariant: what the loop has written, with the words that are left, is the whole.
 -- Assumes nothing.
 use borrow.Author.Needs.{needs}
-use mathlib.Core.Path.{_≡_}
-use Prim.Native.Nat.{_≤_, _-_}
+use Prim.Native.Nat.{_-_}
 use native.Mathlib.Omega.{arith}
 use lib.ListN.{length, take, drop}
 use Rattle.laws.specs.Text.{text}
@@ -13,13 +12,6 @@ use Rattle.data.proofs.Writing.{Writing, writing-first, writing-end}
 use Rattle.data.proofs.Lists.{echo-none, echo-some, echo-turn, echo-more, echo-end}
 use Rattle.data.proofs.put_echo.Statement.{statement}
 use Rattle.data.proofs.put_echo.Tie as tie
-use Rattle.data.proofs.put_echo.Reads as reads
-use Rattle.data.proofs.put_echo.Lts as lts
-use Rattle.data.proofs.put_word.Reads as put-word-reads
-use Rattle.wire.proofs.put_byte.Reads as put-byte-reads
-use Rattle.wire.proofs.put_text.Reads as put-text-reads
-use Rattle.words.proofs.first_word.Reads as first-word-reads
-use Rattle.words.proofs.past_word.Reads as past-word-reads
 
 abbrev Inv-loop : tie.InvT-loop
 Inv-loop buf₀ at s from next₀ place₀ left₀ buf next place left =

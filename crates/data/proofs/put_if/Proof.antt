@@ -5,10 +5,6 @@ use Rattle.data.proofs.Parts.{name-yes, name-no}
 use borrow.Author.Needs.{needs}
 use Rattle.data.proofs.put_if.Statement.{statement}
 use Rattle.data.proofs.put_if.Tie as tie
-use Rattle.data.proofs.put_if.Reads as reads
-use Rattle.data.proofs.put_if.Lts as lts
-use Rattle.data.proofs.put_warning.Reads as put-warning-reads
-use Rattle.wire.proofs.put_byte.Reads as put-byte-reads
 
 put-byte-requires : tie.Need-put-byte-requires
 put-byte-requires c κs = search needs

@@ -7,10 +7,6 @@ use Rattle.data.proofs.Parts.{refusal-none, refusal-word}
 use borrow.Author.Needs.{needs}
 use Rattle.data.proofs.put_refusal.Statement.{statement}
 use Rattle.data.proofs.put_refusal.Tie as tie
-use Rattle.data.proofs.put_refusal.Reads as reads
-use Rattle.data.proofs.put_refusal.Lts as lts
-use Rattle.wire.proofs.put_text.Reads as put-text-reads
-use Rattle.words.proofs.nth_word.Reads as nth-word-reads
 
 returns : tie.Need-returns
 returns c = rw (refusal-none _ (c .if1 .taken)) (wrote-none _ _)

@@ -1,7 +1,6 @@
 -- `data::put_warnings` meets its contract. Invariant: what the loop has written, with the names that are left, is the whole.
 -- Assumes nothing.
 use borrow.Author.Needs.{needs}
-use mathlib.Core.Path.{_≡_}
 use Prim.Native.Nat.{_≤_, _-_}
 use native.Mathlib.Omega.{arith}
 use lib.ListN.{drop}
@@ -12,11 +11,6 @@ use Rattle.data.proofs.Writing.{Writing, writing-first, writing-end}
 use Rattle.data.proofs.Lists.{list-split, names-turn, names-end}
 use Rattle.data.proofs.put_warnings.Statement.{statement}
 use Rattle.data.proofs.put_warnings.Tie as tie
-use Rattle.data.proofs.put_warnings.Reads as reads
-use Rattle.data.proofs.put_warnings.Lts as lts
-use Rattle.data.proofs.put_if.Reads as put-if-reads
-use Rattle.flags.proofs.number.Reads as number-reads
-use Rattle.wire.proofs.put_two.Reads as put-two-reads
 
 abbrev Inv-loop : tie.InvT-loop
 Inv-loop buf₀ at m next₀ left₀ i₀ buf next left i =

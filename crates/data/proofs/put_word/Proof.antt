@@ -5,10 +5,6 @@ use Rattle.data.proofs.Parts.{word-yes, word-no}
 use borrow.Author.Needs.{needs}
 use Rattle.data.proofs.put_word.Statement.{statement}
 use Rattle.data.proofs.put_word.Tie as tie
-use Rattle.data.proofs.put_word.Reads as reads
-use Rattle.data.proofs.put_word.Lts as lts
-use Rattle.wire.proofs.put_byte.Reads as put-byte-reads
-use Rattle.wire.proofs.put_text.Reads as put-text-reads
 
 put-byte-requires : tie.Need-put-byte-requires
 put-byte-requires c κs = search needs

@@ -5,13 +5,6 @@ use Prim.Native.Nat.{_-_, _≤_}
 use native.Mathlib.Omega.{arith}
 use Rattle.dialogue.proofs.main.Statement.{statement}
 use Rattle.dialogue.proofs.main.Tie as tie
-use Rattle.dialogue.proofs.main.Reads as reads
-use Rattle.dialogue.proofs.main.Lts as lts
-use Rattle.dialogue.proofs.ask.Reads as ask-reads
-use Rattle.dialogue.proofs.axis.Reads as axis-reads
-use Rattle.dialogue.proofs.command.Reads as command-reads
-use Rattle.dialogue.proofs.motors.Reads as motors-reads
-use Rattle.state.proofs.Device.new.Reads as new-reads
 
 abbrev Inv-loop : tie.InvT-loop
 Inv-loop d₀ k₀ d k = k ≤ 22

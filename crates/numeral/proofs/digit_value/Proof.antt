@@ -6,8 +6,6 @@ use Rattle.number.proofs.Value as value
 use borrow.Author.Needs.{needs}
 use Rattle.numeral.proofs.digit_value.Statement.{statement}
 use Rattle.numeral.proofs.digit_value.Tie as tie
-use Rattle.numeral.proofs.digit_value.Reads as reads
-use Rattle.numeral.proofs.digit_value.Lts as lts
 
 returns : tie.Need-returns
 returns c = sym (value.none-below _ (omega arith))

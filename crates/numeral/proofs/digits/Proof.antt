@@ -10,9 +10,6 @@ use Rattle.number.proofs.Scan as scan-laws
 use Rattle.number.proofs.Value.{value-small}
 use Rattle.numeral.proofs.digits.Statement.{statement}
 use Rattle.numeral.proofs.digits.Tie as tie
-use Rattle.numeral.proofs.digits.Reads as reads
-use Rattle.numeral.proofs.digits.Lts as lts
-use Rattle.numeral.proofs.digit_value.Reads as digit-value-reads
 
 abbrev Inv-loop : tie.InvT-loop
 Inv-loop w from base most b m n₀ i₀ n i =

@@ -1,12 +1,9 @@
 -- `numeral::starts_hex` meets its contract: each answer is a law of `startsHex` at the place.
 -- Assumes nothing.
-use native.Mathlib.Omega.{arith}
 use Rattle.number.proofs.Scan as scan-laws
 use borrow.Author.Needs.{needs}
 use Rattle.numeral.proofs.starts_hex.Statement.{statement}
 use Rattle.numeral.proofs.starts_hex.Tie as tie
-use Rattle.numeral.proofs.starts_hex.Reads as reads
-use Rattle.numeral.proofs.starts_hex.Lts as lts
 
 returns : tie.Need-returns
 returns c = scan-laws.hex-end _ _ (c .if1 .taken)

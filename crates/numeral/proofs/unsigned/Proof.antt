@@ -6,10 +6,6 @@ use Rattle.number.proofs.Scan.{hex-room, read-hex, read-decimal}
 use borrow.Author.Needs.{needs}
 use Rattle.numeral.proofs.unsigned.Statement.{statement}
 use Rattle.numeral.proofs.unsigned.Tie as tie
-use Rattle.numeral.proofs.unsigned.Reads as reads
-use Rattle.numeral.proofs.unsigned.Lts as lts
-use Rattle.numeral.proofs.digits.Reads as digits-reads
-use Rattle.numeral.proofs.starts_hex.Reads as starts-hex-reads
 
 starts-hex-requires : tie.Need-starts-hex-requires
 starts-hex-requires c κs = search needs

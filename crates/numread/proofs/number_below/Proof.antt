@@ -1,17 +1,15 @@
 -- `numread::number_below` meets its contract: taken from zero in 64 bits, then cut to 32.
 -- Assumes nothing.
-use mathlib.Core.Path.{_≡_, sym, ap}
+use mathlib.Core.Path.{sym, ap}
 use Prim.Native.Nat.{_≤_}
 use native.Mathlib.Omega.{arith}
 use Rattle.number.specs.Reading.{below}
 use Rattle.number.proofs.Scan.{at-most}
-use mir.Syntax.{w32, w64}
+use mir.Syntax.{w64}
 use Rattle.number.proofs.Sign as sign
 use borrow.Author.Needs.{needs}
 use Rattle.numread.proofs.number_below.Statement.{statement}
 use Rattle.numread.proofs.number_below.Tie as tie
-use Rattle.numread.proofs.number_below.Reads as reads
-use Rattle.numread.proofs.number_below.Lts as lts
 
 -- the distance is in range, as the caller saw to it
 far : (c : tie.After-known-told2) → c .before .m2 .given .0 .0 ≤ 2147483648

@@ -4,9 +4,6 @@ use Rattle.number.specs.Reading.{readAddress}
 use borrow.Author.Needs.{needs}
 use Rattle.numread.proofs.read_address.Statement.{statement}
 use Rattle.numread.proofs.read_address.Tie as tie
-use Rattle.numread.proofs.read_address.Reads as reads
-use Rattle.numread.proofs.read_address.Lts as lts
-use Rattle.numeral.proofs.unsigned.Reads as unsigned-reads
 
 unsigned-requires : tie.Need-unsigned-requires
 unsigned-requires c κs = search needs

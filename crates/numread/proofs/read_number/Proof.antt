@@ -7,11 +7,6 @@ use Rattle.number.proofs.Answers.{read-none, read-minus, read-plus, read-bare}
 use borrow.Author.Needs.{needs}
 use Rattle.numread.proofs.read_number.Statement.{statement}
 use Rattle.numread.proofs.read_number.Tie as tie
-use Rattle.numread.proofs.read_number.Reads as reads
-use Rattle.numread.proofs.read_number.Lts as lts
-use Rattle.numread.proofs.number_above.Reads as number-above-reads
-use Rattle.numread.proofs.number_below.Reads as number-below-reads
-use Rattle.numeral.proofs.unsigned.Reads as unsigned-reads
 
 returns : tie.Need-returns
 returns c = read-none _ (c .if1 .taken)

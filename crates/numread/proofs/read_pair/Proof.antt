@@ -5,9 +5,6 @@ use Rattle.number.proofs.Answers.{no-high, no-low, both}
 use borrow.Author.Needs.{needs}
 use Rattle.numread.proofs.read_pair.Statement.{statement}
 use Rattle.numread.proofs.read_pair.Tie as tie
-use Rattle.numread.proofs.read_pair.Reads as reads
-use Rattle.numread.proofs.read_pair.Lts as lts
-use Rattle.numeral.proofs.digit_value.Reads as digit-value-reads
 
 digit-value-requires : tie.Need-digit-value-requires
 digit-value-requires c κs = search needs

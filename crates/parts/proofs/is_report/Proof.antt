@@ -4,8 +4,6 @@ use Rattle.parts.proofs.Prints.{report-none, report-first}
 use borrow.Author.Needs.{needs}
 use Rattle.parts.proofs.is_report.Statement.{statement}
 use Rattle.parts.proofs.is_report.Tie as tie
-use Rattle.parts.proofs.is_report.Reads as reads
-use Rattle.parts.proofs.is_report.Lts as lts
 
 returns : tie.Need-returns
 returns c = report-none _ (c .if1 .taken)

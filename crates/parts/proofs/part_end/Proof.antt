@@ -1,6 +1,6 @@
 -- `parts::part_end` meets its contract. Invariant: the part from i on ends where the part from `at` on ends.
 -- Assumes nothing.
-use mathlib.Core.Path.{_≡_, refl, sym, _∙_}
+use mathlib.Core.Path.{_≡_, refl, _∙_}
 use Prim.Native.Nat.{_+_, _-_}
 use native.Mathlib.Omega.{arith}
 use lib.ListN.{length, drop}
@@ -8,8 +8,6 @@ use Rattle.parts.specs.Parts.{firstPart}
 use Rattle.parts.proofs.Parts.{part-stop, part-on, part-end}
 use Rattle.parts.proofs.part_end.Statement.{statement}
 use Rattle.parts.proofs.part_end.Tie as tie
-use Rattle.parts.proofs.part_end.Reads as reads
-use Rattle.parts.proofs.part_end.Lts as lts
 
 abbrev Inv-loop : tie.InvT-loop
 Inv-loop s at i₀ i = i + firstPart (drop i s) ≡ at + firstPart (drop at s)

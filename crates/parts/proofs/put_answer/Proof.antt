@@ -7,11 +7,6 @@ use Rattle.parts.proofs.Prints.{answer-silent, answer-reply}
 use borrow.Author.Needs.{needs}
 use Rattle.parts.proofs.put_answer.Statement.{statement}
 use Rattle.parts.proofs.put_answer.Tie as tie
-use Rattle.parts.proofs.put_answer.Reads as reads
-use Rattle.parts.proofs.put_answer.Lts as lts
-use Rattle.data.proofs.lesser.Reads as lesser-reads
-use Rattle.parts.proofs.put_told.Reads as put-told-reads
-use Rattle.wire.proofs.put_text.Reads as put-text-reads
 
 slice-aggregate-put-told : tie.Need-slice-aggregate-put-told
 slice-aggregate-put-told c = search needs

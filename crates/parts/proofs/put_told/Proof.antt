@@ -6,11 +6,6 @@ use Rattle.parts.specs.Prints.{told}
 use borrow.Author.Needs.{needs}
 use Rattle.parts.proofs.put_told.Statement.{statement}
 use Rattle.parts.proofs.put_told.Tie as tie
-use Rattle.parts.proofs.put_told.Reads as reads
-use Rattle.parts.proofs.put_told.Lts as lts
-use Rattle.wire.proofs.put_byte.Reads as put-byte-reads
-use Rattle.wire.proofs.put_number.Reads as put-number-reads
-use Rattle.wire.proofs.put_text.Reads as put-text-reads
 
 put-text-requires : tie.Need-put-text-requires
 put-text-requires c κs = search needs

@@ -5,12 +5,6 @@ use lib.ListN.{length-take}
 use borrow.Author.Needs.{needs}
 use Rattle.replay.proofs.read_file.Statement.{statement}
 use Rattle.replay.proofs.read_file.Tie as tie
-use Rattle.replay.proofs.read_file.Reads as reads
-use Rattle.replay.proofs.read_file.Lts as lts
-use Rattle.io.proofs.read_full.Reads as read-full-reads
-use Rattle.libc.proofs.close.Reads as close-reads
-use Rattle.os.proofs.open_read.Reads as open-read-reads
-use Rattle.replay.proofs.name.Reads as name-reads
 
 slice-aggregate-name : tie.Need-slice-aggregate-name
 slice-aggregate-name c = search needs

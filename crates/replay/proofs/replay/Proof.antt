@@ -6,12 +6,6 @@ use Rattle.wire.proofs.Wrote.{wrote-inside}
 use borrow.Author.Needs.{needs}
 use Rattle.replay.proofs.replay.Statement.{statement}
 use Rattle.replay.proofs.replay.Tie as tie
-use Rattle.replay.proofs.replay.Reads as reads
-use Rattle.replay.proofs.replay.Lts as lts
-use Rattle.replay.proofs.read_file.Reads as read-file-reads
-use Rattle.replay.proofs.say.Reads as say-reads
-use Rattle.session.proofs.run.Reads as run-reads
-use Rattle.words.proofs.same_bytes.Reads as same-bytes-reads
 
 slice-aggregate-read-file : tie.Need-slice-aggregate-read-file
 slice-aggregate-read-file c = search needs

@@ -6,12 +6,6 @@ use Rattle.reply.proofs.Texts.{ending-sum, ending-bare}
 use borrow.Author.Needs.{needs}
 use Rattle.reply.proofs.put_end.Statement.{statement}
 use Rattle.reply.proofs.put_end.Tie as tie
-use Rattle.reply.proofs.put_end.Reads as reads
-use Rattle.reply.proofs.put_end.Lts as lts
-use Rattle.reply.proofs.summed.Reads as summed-reads
-use Rattle.wire.proofs.put_byte.Reads as put-byte-reads
-use Rattle.wire.proofs.put_pair.Reads as put-pair-reads
-use Rattle.wire.proofs.put_text.Reads as put-text-reads
 
 summed-requires : tie.Need-summed-requires
 summed-requires c κs = search needs

@@ -6,15 +6,6 @@ use Rattle.reply.proofs.Texts.{highest-is, head-is}
 use borrow.Author.Needs.{needs}
 use Rattle.reply.proofs.put_head.Statement.{statement}
 use Rattle.reply.proofs.put_head.Tie as tie
-use Rattle.reply.proofs.put_head.Reads as reads
-use Rattle.reply.proofs.put_head.Lts as lts
-use Rattle.data.proofs.put_warning.Reads as put-warning-reads
-use Rattle.flags.proofs.highest.Reads as highest-reads
-use Rattle.reply.proofs.put_status.Reads as put-status-reads
-use Rattle.reply.proofs.put_verdict.Reads as put-verdict-reads
-use Rattle.wire.proofs.put_byte.Reads as put-byte-reads
-use Rattle.wire.proofs.put_number.Reads as put-number-reads
-use Rattle.wire.proofs.put_two.Reads as put-two-reads
 
 put-byte-requires : tie.Need-put-byte-requires
 put-byte-requires c κs = search needs

@@ -5,9 +5,6 @@ use Rattle.reply.specs.Reply.{status}
 use borrow.Author.Needs.{needs}
 use Rattle.reply.proofs.put_status.Statement.{statement}
 use Rattle.reply.proofs.put_status.Tie as tie
-use Rattle.reply.proofs.put_status.Reads as reads
-use Rattle.reply.proofs.put_status.Lts as lts
-use Rattle.wire.proofs.put_text.Reads as put-text-reads
 
 slice-aggregate-put-text : tie.Need-slice-aggregate-put-text
 slice-aggregate-put-text c = search needs

@@ -6,10 +6,6 @@ use Rattle.reply.proofs.Texts.{between}
 use borrow.Author.Needs.{needs}
 use Rattle.reply.proofs.summed.Statement.{statement}
 use Rattle.reply.proofs.summed.Tie as tie
-use Rattle.reply.proofs.summed.Reads as reads
-use Rattle.reply.proofs.summed.Lts as lts
-use Rattle.data.proofs.lesser.Reads as lesser-reads
-use Rattle.number.proofs.checksum.Reads as checksum-reads
 
 lesser-requires : tie.Need-lesser-requires
 lesser-requires c κs = search needs

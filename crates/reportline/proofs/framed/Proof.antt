@@ -8,11 +8,6 @@ use Rattle.reportline.proofs.Reports.{footer-yes, footer-not}
 use borrow.Author.Needs.{needs}
 use Rattle.reportline.proofs.framed.Statement.{statement}
 use Rattle.reportline.proofs.framed.Tie as tie
-use Rattle.reportline.proofs.framed.Reads as reads
-use Rattle.reportline.proofs.framed.Lts as lts
-use Rattle.frame.proofs.is_footer.Reads as is-footer-reads
-use Rattle.frame.proofs.printable_len.Reads as printable-len-reads
-use Rattle.reportline.proofs.report_words.Reads as report-words-reads
 
 printable-len-requires : tie.Need-printable-len-requires
 printable-len-requires c κs = search needs

@@ -3,8 +3,6 @@
 use borrow.Author.Needs.{needs}
 use Rattle.reportline.proofs.numbers.Statement.{statement}
 use Rattle.reportline.proofs.numbers.Tie as tie
-use Rattle.reportline.proofs.numbers.Reads as reads
-use Rattle.reportline.proofs.numbers.Lts as lts
 
 enum-told : tie.Need-enum-told
 enum-told c = search needs

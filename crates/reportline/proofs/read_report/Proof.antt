@@ -5,9 +5,6 @@ use Rattle.reportline.proofs.Reports.{too-long, short}
 use borrow.Author.Needs.{needs}
 use Rattle.reportline.proofs.read_report.Statement.{statement}
 use Rattle.reportline.proofs.read_report.Tie as tie
-use Rattle.reportline.proofs.read_report.Reads as reads
-use Rattle.reportline.proofs.read_report.Lts as lts
-use Rattle.reportline.proofs.framed.Reads as framed-reads
 
 returns : tie.Need-returns
 returns c = too-long _ (c .if1 .taken)

@@ -7,13 +7,6 @@ use Rattle.reportline.proofs.Reports.{too-many, no-report, a-report}
 use borrow.Author.Needs.{needs}
 use Rattle.reportline.proofs.report_words.Statement.{statement}
 use Rattle.reportline.proofs.report_words.Tie as tie
-use Rattle.reportline.proofs.report_words.Reads as reads
-use Rattle.reportline.proofs.report_words.Lts as lts
-use Rattle.numread.proofs.read_number.Reads as read-number-reads
-use Rattle.reportline.proofs.numbers.Reads as numbers-reads
-use Rattle.words.proofs.first_word.Reads as first-word-reads
-use Rattle.words.proofs.past_word.Reads as past-word-reads
-use Rattle.words.proofs.same_bytes.Reads as same-bytes-reads
 
 past-word-requires : tie.Need-past-word-requires
 past-word-requires c κs = search needs

@@ -4,9 +4,6 @@ use Rattle.session.specs.Bench.{benchDevice}
 use borrow.Author.Needs.{needs}
 use Rattle.session.proofs.bench_device.Statement.{statement}
 use Rattle.session.proofs.bench_device.Tie as tie
-use Rattle.session.proofs.bench_device.Reads as reads
-use Rattle.session.proofs.bench_device.Lts as lts
-use Rattle.state.proofs.Device.new.Reads as new-reads
 
 new-requires : tie.Need-new-requires
 new-requires c κs = search needs

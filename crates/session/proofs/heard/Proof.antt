@@ -3,10 +3,6 @@
 use borrow.Author.Needs.{needs}
 use Rattle.session.proofs.heard.Statement.{statement}
 use Rattle.session.proofs.heard.Tie as tie
-use Rattle.session.proofs.heard.Reads as reads
-use Rattle.session.proofs.heard.Lts as lts
-use Rattle.carriage.proofs.report.Reads as report-reads
-use Rattle.state.proofs.Device.beside.Reads as beside-reads
 
 enum-told : tie.Need-enum-told
 enum-told c = search needs

@@ -4,10 +4,6 @@ use Rattle.session.proofs.Turns.{took-line}
 use borrow.Author.Needs.{needs}
 use Rattle.session.proofs.line_turn.Statement.{statement}
 use Rattle.session.proofs.line_turn.Tie as tie
-use Rattle.session.proofs.line_turn.Reads as reads
-use Rattle.session.proofs.line_turn.Lts as lts
-use Rattle.carriage.proofs.step.Reads as step-reads
-use Rattle.parts.proofs.put_answer.Reads as put-answer-reads
 
 slice-aggregate-step : tie.Need-slice-aggregate-step
 slice-aggregate-step c = search needs

@@ -5,11 +5,6 @@ use Rattle.session.proofs.Turns.{took-report}
 use borrow.Author.Needs.{needs}
 use Rattle.session.proofs.report_turn.Statement.{statement}
 use Rattle.session.proofs.report_turn.Tie as tie
-use Rattle.session.proofs.report_turn.Reads as reads
-use Rattle.session.proofs.report_turn.Lts as lts
-use Rattle.parts.proofs.put_told.Reads as put-told-reads
-use Rattle.reportline.proofs.read_report.Reads as read-report-reads
-use Rattle.session.proofs.heard.Reads as heard-reads
 
 read-report-requires : tie.Need-read-report-requires
 read-report-requires c κs = search needs

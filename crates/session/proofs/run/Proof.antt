@@ -6,11 +6,6 @@ use lib.ListN.{length-take}
 use Rattle.session.proofs.Turns.{ran}
 use Rattle.session.proofs.run.Statement.{statement}
 use Rattle.session.proofs.run.Tie as tie
-use Rattle.session.proofs.run.Reads as reads
-use Rattle.session.proofs.run.Lts as lts
-use Rattle.data.proofs.lesser.Reads as lesser-reads
-use Rattle.session.proofs.bench_device.Reads as bench-device-reads
-use Rattle.session.proofs.run_parts.Reads as run-parts-reads
 
 lesser-requires : tie.Need-lesser-requires
 lesser-requires c κs = search needs

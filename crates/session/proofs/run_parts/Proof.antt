@@ -9,10 +9,6 @@ use Rattle.parts.proofs.Parts.{part-past, part-inside}
 use Rattle.session.proofs.Turns.{Running, running-first, running-more, running-end}
 use Rattle.session.proofs.run_parts.Statement.{statement}
 use Rattle.session.proofs.run_parts.Tie as tie
-use Rattle.session.proofs.run_parts.Reads as reads
-use Rattle.session.proofs.run_parts.Lts as lts
-use Rattle.parts.proofs.part_end.Reads as part-end-reads
-use Rattle.session.proofs.turn.Reads as turn-reads
 
 abbrev Inv-loop : tie.InvT-loop
 Inv-loop input out₀ d₀ place₀ at₀ out d place at = Running d₀ input out₀ d out place at

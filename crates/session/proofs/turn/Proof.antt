@@ -4,11 +4,6 @@ use borrow.Author.Needs.{needs}
 use Rattle.session.proofs.Turns.{turn-report, turn-line}
 use Rattle.session.proofs.turn.Statement.{statement}
 use Rattle.session.proofs.turn.Tie as tie
-use Rattle.session.proofs.turn.Reads as reads
-use Rattle.session.proofs.turn.Lts as lts
-use Rattle.parts.proofs.is_report.Reads as is-report-reads
-use Rattle.session.proofs.line_turn.Reads as line-turn-reads
-use Rattle.session.proofs.report_turn.Reads as report-turn-reads
 
 is-report-requires : tie.Need-is-report-requires
 is-report-requires c κs = search needs

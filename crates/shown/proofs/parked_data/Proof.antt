@@ -5,9 +5,6 @@ use Rattle.shown.specs.Data.{parkedData}
 use borrow.Author.Needs.{needs}
 use Rattle.shown.proofs.parked_data.Statement.{statement}
 use Rattle.shown.proofs.parked_data.Tie as tie
-use Rattle.shown.proofs.parked_data.Reads as reads
-use Rattle.shown.proofs.parked_data.Lts as lts
-use Rattle.wire.proofs.put_text.Reads as put-text-reads
 
 slice-aggregate-put-text : tie.Need-slice-aggregate-put-text
 slice-aggregate-put-text c = search needs

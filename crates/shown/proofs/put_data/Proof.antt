@@ -4,10 +4,6 @@ use Rattle.shown.specs.Data.{dataOf}
 use borrow.Author.Needs.{needs}
 use Rattle.shown.proofs.put_data.Statement.{statement}
 use Rattle.shown.proofs.put_data.Tie as tie
-use Rattle.shown.proofs.put_data.Reads as reads
-use Rattle.shown.proofs.put_data.Lts as lts
-use Rattle.shown.proofs.put_shown.Reads as put-shown-reads
-use Rattle.shown.proofs.shown_by.Reads as shown-by-reads
 
 shown-by-requires : tie.Need-shown-by-requires
 shown-by-requires c κs = search needs

@@ -5,14 +5,6 @@ use Rattle.view.specs.View.{warningsOf}
 use borrow.Author.Needs.{needs}
 use Rattle.shown.proofs.put_shown.Statement.{statement}
 use Rattle.shown.proofs.put_shown.Tie as tie
-use Rattle.shown.proofs.put_shown.Reads as reads
-use Rattle.shown.proofs.put_shown.Lts as lts
-use Rattle.data.proofs.put_echo.Reads as put-echo-reads
-use Rattle.data.proofs.put_warnings.Reads as put-warnings-reads
-use Rattle.shown.proofs.parked_data.Reads as parked-data-reads
-use Rattle.shown.proofs.setting_data.Reads as setting-data-reads
-use Rattle.view.proofs.put_values.Reads as put-values-reads
-use Rattle.wire.proofs.put_text.Reads as put-text-reads
 
 enum-told : tie.Need-enum-told
 enum-told c = search needs

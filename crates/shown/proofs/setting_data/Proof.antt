@@ -3,11 +3,6 @@
 use borrow.Author.Needs.{needs}
 use Rattle.shown.proofs.setting_data.Statement.{statement}
 use Rattle.shown.proofs.setting_data.Tie as tie
-use Rattle.shown.proofs.setting_data.Reads as reads
-use Rattle.shown.proofs.setting_data.Lts as lts
-use Rattle.state.proofs.Device.value.Reads as value-reads
-use Rattle.view.proofs.put_values.Reads as put-values-reads
-use Rattle.wire.proofs.put_signed.Reads as put-signed-reads
 
 enum-known-s : tie.Need-enum-known-s
 enum-known-s c = search needs

@@ -3,8 +3,6 @@
 use borrow.Author.Needs.{needs}
 use Rattle.shown.proofs.shown_by.Statement.{statement}
 use Rattle.shown.proofs.shown_by.Tie as tie
-use Rattle.shown.proofs.shown_by.Reads as reads
-use Rattle.shown.proofs.shown_by.Lts as lts
 
 enum-told : tie.Need-enum-told
 enum-told c = search needs

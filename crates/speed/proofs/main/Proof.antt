@@ -5,12 +5,6 @@ use lib.ListN.{length-take}
 use borrow.Author.Needs.{needs}
 use Rattle.speed.proofs.main.Statement.{statement}
 use Rattle.speed.proofs.main.Tie as tie
-use Rattle.speed.proofs.main.Reads as reads
-use Rattle.speed.proofs.main.Lts as lts
-use Rattle.io.proofs.read_full.Reads as read-full-reads
-use Rattle.reportline.proofs.read_report.Reads as read-report-reads
-use Rattle.speed.proofs.run.Reads as run-reads
-use Rattle.speed.proofs.say.Reads as say-reads
 
 slice-aggregate-read-full : tie.Need-slice-aggregate-read-full
 slice-aggregate-read-full c = search needs

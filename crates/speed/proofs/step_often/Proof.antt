@@ -2,14 +2,11 @@
 -- Assumes nothing.
 use borrow.Author.Needs.{needs}
 use mathlib.Core.Path.{_≡_, refl, _∙_}
-use Prim.Native.Nat.{_-_, _≤_, _<_}
+use Prim.Native.Nat.{_-_, _≤_}
 use native.Mathlib.Omega.{arith}
 use lib.ListN.{length}
 use Rattle.speed.proofs.step_often.Statement.{statement}
 use Rattle.speed.proofs.step_often.Tie as tie
-use Rattle.speed.proofs.step_often.Reads as reads
-use Rattle.speed.proofs.step_often.Lts as lts
-use Rattle.carriage.proofs.step.Reads as step-reads
 
 abbrev Inv-loop : tie.InvT-loop
 Inv-loop line many reply₀ d₀ sum₀ i₀ reply d sum i = (i ≤ many) × (length reply ≡ length reply₀)

@@ -6,8 +6,6 @@ use native.Mathlib.Omega.{arith}
 use lib.ListN.{length}
 use Rattle.speed.proofs.sum_of.Statement.{statement}
 use Rattle.speed.proofs.sum_of.Tie as tie
-use Rattle.speed.proofs.sum_of.Reads as reads
-use Rattle.speed.proofs.sum_of.Lts as lts
 
 abbrev Inv-loop : tie.InvT-loop
 Inv-loop s from sum₀ i₀ sum i = i ≤ length s

@@ -4,11 +4,6 @@ use Rattle.view.specs.View.{busy, warningsOf, headOf}
 use borrow.Author.Needs.{needs}
 use Rattle.view.proofs.head.Statement.{statement}
 use Rattle.view.proofs.head.Tie as tie
-use Rattle.view.proofs.head.Reads as reads
-use Rattle.view.proofs.head.Lts as lts
-use Rattle.state.proofs.Device.moving.Reads as moving-reads
-use Rattle.units.proofs.Number.place.Reads as place-reads
-use Rattle.view.proofs.shown_axis.Reads as shown-axis-reads
 
 shown-axis-requires : tie.Need-shown-axis-requires
 shown-axis-requires c κs = search needs

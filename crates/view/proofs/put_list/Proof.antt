@@ -3,7 +3,7 @@
 use borrow.Author.Needs.{needs}
 use mathlib.Core.Path.{_≡_}
 use mathlib.Core.List.{map}
-use Prim.Native.Nat.{_≤_, _-_}
+use Prim.Native.Nat.{_-_}
 use native.Mathlib.Omega.{arith}
 use lib.IntN.{pos}
 use lib.ListN.{length, take, drop}
@@ -16,11 +16,6 @@ use Rattle.view.specs.View.{valueIn}
 use Rattle.view.proofs.Walks.{list-none, list-some, list-more, list-end}
 use Rattle.view.proofs.put_list.Statement.{statement}
 use Rattle.view.proofs.put_list.Tie as tie
-use Rattle.view.proofs.put_list.Reads as reads
-use Rattle.view.proofs.put_list.Lts as lts
-use Rattle.view.proofs.value_of.Reads as value-of-reads
-use Rattle.wire.proofs.put_byte.Reads as put-byte-reads
-use Rattle.wire.proofs.put_signed.Reads as put-signed-reads
 
 abbrev Inv-loop : tie.InvT-loop
 Inv-loop buf₀ at v from many axes next₀ n₀ buf next n =

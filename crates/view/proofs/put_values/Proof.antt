@@ -6,10 +6,6 @@ use Rattle.view.specs.View.{valuesOf}
 use borrow.Author.Needs.{needs}
 use Rattle.view.proofs.put_values.Statement.{statement}
 use Rattle.view.proofs.put_values.Tie as tie
-use Rattle.view.proofs.put_values.Reads as reads
-use Rattle.view.proofs.put_values.Lts as lts
-use Rattle.state.proofs.Device.part.Reads as part-reads
-use Rattle.view.proofs.put_list.Reads as put-list-reads
 
 part-requires : tie.Need-part-requires
 part-requires c κs = search needs

@@ -5,8 +5,6 @@ use borrow.Author.Tests.{le-leb, lt-leb}
 use borrow.Author.Needs.{needs}
 use Rattle.view.proofs.shown_axis.Statement.{statement}
 use Rattle.view.proofs.shown_axis.Tie as tie
-use Rattle.view.proofs.shown_axis.Reads as reads
-use Rattle.view.proofs.shown_axis.Lts as lts
 
 cast-if1 : tie.Need-cast-if1
 cast-if1 c = search needs

@@ -3,11 +3,6 @@
 use borrow.Author.Needs.{needs}
 use Rattle.view.proofs.value_of.Statement.{statement}
 use Rattle.view.proofs.value_of.Tie as tie
-use Rattle.view.proofs.value_of.Reads as reads
-use Rattle.view.proofs.value_of.Lts as lts
-use Rattle.axis.proofs.Axis.stored_at.Reads as stored-at-reads
-use Rattle.settings.proofs.Settings.value.Reads as value-reads
-use Rattle.units.proofs.Position.number.Reads as number-reads
 
 enum-known-v : tie.Need-enum-known-v
 enum-known-v c = search needs
