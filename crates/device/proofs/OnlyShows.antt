@@ -1,4 +1,4 @@
--- A command that only shows meets neither 16 nor 11, and the next record is the record: so the axes need not be walked for it.
+-- A command that only shows does not meet 11, and the next record is the record: so the axes need not be walked for it.
 -- Assumes that it is one of those commands.
 use mathlib.Core.Path.{_≡_, refl, ap, _∙_}
 use mathlib.Core.Bool.{true, false, not}
@@ -6,26 +6,22 @@ use mathlib.Core.List.{List}
 use Prim.Native.Nat.{ℕ, _-_}
 use Rattle.laws.proofs.Bools.{clash}
 use Rattle.laws.proofs.Walks.{all-alike, change-same}
-use Rattle.axis.specs.Record.{freshAxis}
-use Rattle.orders.specs.Commands.{demands, axisAfter, onlyShows}
+use Rattle.orders.specs.Commands.{demands, axisAfter}
+use Rattle.orders.specs.Shows.{onlyShows}
 use Rattle.orders.proofs.OnlyShows.{only-shows}
 use Rattle.state.specs.Record.{withAxes, many, axesOf, onAxes}
 use Rattle.device.specs.Types.{Command, Nothing, Home, Stop, Estop, MoveTo, MoveVel, Get, Set, Storepos, StoreposAt, StoreposCurrent, Warnings, WarningsClear, ParkingState, Park, Unpark, Echo, Axis, Device}
-use Rattle.device.specs.Refusals.{statusBusy, badData}
+use Rattle.device.specs.Refusals.{badData}
 use Rattle.device.specs.Effects.{deviceAfter, next}
 
 module _ (d : Device) (k : ℕ) (c : Command) (shows : onlyShows c ≡ true) where
-  pub shows-free : statusBusy d k c ≡ false
-  unfolding statusBusy
-  shows-free = rw (only-shows c shows freshAxis .0)
-
   pub shows-permitted : badData d k c ≡ false
   unfolding badData
-  shows-permitted = ap not (all-alike (demands c .permits) (λ a. only-shows c shows a .1) (axesOf d k))
+  shows-permitted = ap not (all-alike (demands c .permits) (λ a. only-shows c shows a .0) (axesOf d k))
 
   axes-same : onAxes (axisAfter c) k d ≡ d
   unfolding onAxes
-  axes-same = ap (λ (l : List Axis). withAxes l d) (change-same (axisAfter c) (λ a. only-shows c shows a .2) (k - 1) (many d k) (d .axes))
+  axes-same = ap (λ (l : List Axis). withAxes l d) (change-same (axisAfter c) (λ a. only-shows c shows a .1) (k - 1) (many d k) (d .axes))
 
 device-same : (c : Command) (d : Device) → onlyShows c ≡ true → deviceAfter c d ≡ d
 device-same Nothing d h = refl

@@ -52,10 +52,13 @@ fn status_busy(d: Device, k: u64, c: Command) -> bool
     }
 }
 
-// 11 BADDATA: value, target, reference or range, on some axis.
+// 11 BADDATA: value, target, reference or range, on some axis. What only shows has none of these.
 fn bad_data(d: Device, k: u64, c: Command) -> bool
     ensures { λ r. ⌜ r ≡ badData d k c ⌝ }
 {
+    if orders::only_shows(c) {
+        return false;
+    }
     let r = d.each(k, Test::Permits(c));
     !r
 }
@@ -75,9 +78,6 @@ pub fn refusal(d: Device, k: u64, c: Command) -> u8
     }
     if parked_for(d, c) {
         return 15;
-    }
-    if orders::only_shows(c) {
-        return 0;
     }
     if status_busy(d, k, c) {
         return 16;

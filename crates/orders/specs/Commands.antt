@@ -86,23 +86,3 @@ axisAfter ParkingState a = a
 axisAfter Park a = a
 axisAfter Unpark a = a
 axisAfter Echo a = a
-
--- the commands that only show: they ask nothing of an axis and change nothing
-abbrev pub onlyShows : Command → Bool
-onlyShows Nothing = true
-onlyShows Home = false
-onlyShows Stop = false
-onlyShows Estop = false
-onlyShows (MoveTo t) = false
-onlyShows (MoveVel v) = false
-onlyShows (Get s) = true
-onlyShows (Set s n) = false
-onlyShows (Storepos n) = false
-onlyShows (StoreposAt n p) = false
-onlyShows (StoreposCurrent n) = false
-onlyShows Warnings = true
-onlyShows WarningsClear = false
-onlyShows ParkingState = true
-onlyShows Park = false
-onlyShows Unpark = false
-onlyShows Echo = true

@@ -1,7 +1,8 @@
 // What a command demands of the device and of one axis, and what it makes of that axis.
 // One line a row of document 01's table of commands.
 ghost use mathlib.Core.Path.{_≡_};
-ghost use Rattle.orders.specs.Commands.{demands, onlyShows, putSetting, axisAfter};
+ghost use Rattle.orders.specs.Commands.{demands, putSetting, axisAfter};
+ghost use Rattle.orders.specs.Shows.{onlyShows};
 use axis::Axis;
 use axis::Motion;
 use axis::travel::is_place;
@@ -134,7 +135,7 @@ pub fn permits(a: Axis, c: Command) -> bool
     }
 }
 
-// Does the command only show? It asks nothing of an axis and changes nothing, so that no axis has to be looked at.
+// Does the command only show, so that no axis has to be looked at?
 pub fn only_shows(c: Command) -> bool
     ensures { λ r. ⌜ r ≡ onlyShows c ⌝ }
 {

@@ -1,6 +1,6 @@
 -- Places from a number on, cut at the fourth, are those places of a list of four.
 -- Assumes that there are four places, which every device record has.
-use mathlib.Core.Path.{_≡_, sym}
+use mathlib.Core.Path.{_≡_, refl, sym}
 use mathlib.Core.List.{List}
 use Prim.Native.Nat.{ℕ, _+_, _-_, min, _≤_}
 use native.Mathlib.Omega.{arith}
@@ -25,4 +25,5 @@ module _ (axes : List Axis) (n k : ℕ) (p : Part) (four : length axes ≡ 4) (e
   part-change g = rw e (sym (rw four at (change-clip g (k - 1) n axes)))
 
 pub first-axes : (axes : List Axis) (n : ℕ) → length axes ≡ 4 → take (min n 4) axes ≡ take n axes
-first-axes axes n four = sym (rw four at (part-clip 0 n axes))
+unfolding partOf
+first-axes axes n four = part-axes axes n 0 (partOf n 0) four refl
