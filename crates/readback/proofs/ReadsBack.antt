@@ -13,7 +13,7 @@ use lib.Seq.{take-at}
 use borrow.Author.Tests.{ltb-false, eq-eqb, eqb-true}
 use Rattle.laws.specs.Text.{text, spaced}
 use Rattle.laws.specs.Refusals.{firstOf}
-use Rattle.laws.proofs.Bools.{clash}
+use Rattle.laws.proofs.Bools.{clash, or-left, or-right}
 use Rattle.laws.proofs.Each.{more}
 use Rattle.number.specs.Checksum.{checksum}
 use Rattle.number.specs.Decimal.{lastDigit, digits, hexPair}
@@ -54,10 +54,6 @@ record Accepted (n k : ℕ) (c : Command) (message : List ℕ) (sum : Bool) (b :
   fit : unfit c message ≡ false
   short : length (lineText n k c message sum) ≤ 80
 
-or-false : (a b : Bool) → (a || b) ≡ false → (a ≡ false) × (b ≡ false)
-or-false true b h = clash refl h
-or-false false b h = (refl, h)
-
 module _ (address axis : ℕ) (c : Command) (message : List ℕ) (sum : Bool) (b : List ℕ) where
   accepted : writerRefusal address axis c message sum b ≡ 0 → Accepted address axis c message sum b
   unfolding writerRefusal firstOf unspellable
@@ -66,9 +62,14 @@ module _ (address axis : ℕ) (c : Command) (message : List ℕ) (sum : Bool) (b
       three : (t : Bool) → ltb 80 (length (lineText address axis c message sum)) ≡ t → ltb (length b) 80 ≡ false → unspellable address axis c message ≡ false → Accepted address axis c message sum b
       three true h p q = let y = rw (p, q, h) at e in absurd (omega arith)
       three false h p q =
-          let u = or-false (ltb 99 address || ltb 9 axis) (unfit c message) q in
-          let v = or-false (ltb 99 address) (ltb 9 axis) (u .0) in
-          record { room = ltb-false (length b) 80 p; address = ltb-false 99 address (v .0); axis = ltb-false 9 axis (v .1); fit = u .1; short = ltb-false 80 _ h }
+          let u = or-left (ltb 99 address || ltb 9 axis) (unfit c message) q in
+          record {
+            room = ltb-false (length b) 80 p;
+            address = ltb-false 99 address (or-left (ltb 99 address) (ltb 9 axis) u);
+            axis = ltb-false 9 axis (or-right (ltb 99 address) (ltb 9 axis) u);
+            fit = or-right (ltb 99 address || ltb 9 axis) (unfit c message) q;
+            short = ltb-false 80 _ h;
+          }
 
       two : (t : Bool) → unspellable address axis c message ≡ t → ltb (length b) 80 ≡ false → Accepted address axis c message sum b
       two true h p = let y = rw (p, h) at e in absurd (omega arith)
