@@ -9,7 +9,7 @@ use Rattle.laws.specs.Refusals.{_when_, firstOf}
 use Rattle.laws.proofs.Bools.{and-left, and-right, not-false}
 use Rattle.laws.proofs.Refusals.{unmet, below}
 use Rattle.reports.specs.Reports.{takes}
-use Rattle.orders.specs.Commands.{demands}
+use Rattle.orders.specs.Commands.{permits}
 use Rattle.state.specs.Record.{axesOf}
 use Rattle.state.specs.Good.{good}
 use Rattle.device.specs.Types.{Command, Report, Device}
@@ -41,9 +41,9 @@ module _ (d : Device) (k : ℕ) (c : Command) (e : refusal d k c ≡ 0) where
   not-busy = unmet 15 (statusBusy d k c) _ past-15
 
   -- "an all-axes command is accepted only if each axis permits it"
-  pub each-permits : all (demands c .permits) (axesOf d k) ≡ true
+  pub each-permits : all (permits c) (axesOf d k) ≡ true
   unfolding badData
-  each-permits = not-false (all (demands c .permits) (axesOf d k)) (unmet 10 (badData d k c) [] (below 15 (statusBusy d k c) _ past-15))
+  each-permits = not-false (all (permits c) (axesOf d k)) (unmet 10 (badData d k c) [] (below 15 (statusBusy d k c) _ past-15))
 
 -- an accepted report: its axis is there, and takes it
 module _ (d : Device) (k : ℕ) (r : Report) (e : reportRefusal d k r ≡ 0) where

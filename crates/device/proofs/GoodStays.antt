@@ -20,7 +20,7 @@ use Rattle.axis.specs.Record.{freshAxis, moving}
 use Rattle.axis.specs.Good.{goodAxis}
 use Rattle.reports.specs.Reports.{takes, reported}
 use Rattle.reports.proofs.GoodStays.{reported-good, reported-still}
-use Rattle.orders.specs.Commands.{demands, axisAfter}
+use Rattle.orders.specs.Commands.{demands, permits, axisAfter}
 use Rattle.orders.proofs.GoodStays.{after-good, after-still}
 use Rattle.state.specs.Record.{many, axesOf, onAxes, put, withParked}
 use Rattle.state.specs.Good.{inRange, good}
@@ -138,8 +138,8 @@ module _ (d : Device) (k : ℕ) (c : Command) (h : Good d) (e : refusal d k c �
   -- the axes after the command: on a parked device, none is set in motion
   axes-after : (u : Bool) → demands c .unparked ≡ u → parked d c ≡ false → Good (onAxes (axisAfter c) k d)
   unfolding parked
-  axes-after true u p = moved-good d k (axisAfter c) (demands c .permits) (each-permits d k c e) (after-good c) h (and-true-false (d .parked) (demands c .unparked) u p)
-  axes-after false u p = still-good d k (axisAfter c) (demands c .permits) (each-permits d k c e) (after-good c) h (after-still c u)
+  axes-after true u p = moved-good d k (axisAfter c) (permits c) (each-permits d k c e) (after-good c) h (and-true-false (d .parked) (demands c .unparked) u p)
+  axes-after false u p = still-good d k (axisAfter c) (permits c) (each-permits d k c e) (after-good c) h (after-still c u)
 
   changed : Good (onAxes (axisAfter c) k d)
   changed = axes-after (demands c .unparked) refl (not-parked d k c e)

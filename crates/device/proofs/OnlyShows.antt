@@ -6,7 +6,7 @@ use mathlib.Core.List.{List}
 use Prim.Native.Nat.{ℕ, _-_}
 use Rattle.laws.proofs.Bools.{clash}
 use Rattle.laws.proofs.Walks.{all-alike, change-same}
-use Rattle.orders.specs.Commands.{demands, axisAfter}
+use Rattle.orders.specs.Commands.{permits, axisAfter}
 use Rattle.orders.specs.Shows.{onlyShows}
 use Rattle.orders.proofs.OnlyShows.{only-shows}
 use Rattle.state.specs.Record.{withAxes, many, axesOf, onAxes}
@@ -17,7 +17,7 @@ use Rattle.device.specs.Effects.{deviceAfter, next}
 module _ (d : Device) (k : ℕ) (c : Command) (shows : onlyShows c ≡ true) where
   pub shows-permitted : badData d k c ≡ false
   unfolding badData
-  shows-permitted = ap not (all-alike (demands c .permits) (λ a. only-shows c shows a .0) (axesOf d k))
+  shows-permitted = ap not (all-alike (permits c) (λ a. only-shows c shows a .0) (axesOf d k))
 
   axes-same : onAxes (axisAfter c) k d ≡ d
   unfolding onAxes

@@ -8,7 +8,7 @@ use Rattle.laws.specs.Lists.{all, any}
 use Rattle.laws.specs.Refusals.{_when_, firstOf}
 use Rattle.units.specs.Units.{place}
 use Rattle.axis.specs.Record.{moving}
-use Rattle.orders.specs.Commands.{demands}
+use Rattle.orders.specs.Commands.{demands, permits}
 use Rattle.device.specs.Types.{Command, Device}
 use Rattle.state.specs.Record.{axesOf}
 
@@ -34,7 +34,7 @@ statusBusy d k c = demands c .rest && any moving (axesOf d k)
 
 -- "value, target, reference or range"; "an all-axes command is accepted only if each axis permits it"
 unfoldable pub badData : Device → ℕ → Command → Bool
-badData d k c = not (all (demands c .permits) (axesOf d k))
+badData d k c = not (all (permits c) (axesOf d k))
 
 -- "Checks run in the table's order and the first that applies wins."
 unfoldable pub refusal : Device → ℕ → Command → ℕ

@@ -3,6 +3,7 @@
 ghost use mathlib.Core.Path.{_≡_};
 ghost use Rattle.device.specs.Refusals.{badAxis, deviceOnly, noAccess, parked as parkedFor, statusBusy, badData, refusal as refusalOf};
 use command::Command;
+use orders::Demands;
 use state::Device;
 use walks::Test;
 
@@ -11,8 +12,8 @@ fn device_only(k: u64, c: Command) -> bool
     ensures { λ r. ⌜ r ≡ deviceOnly k c ⌝ }
 {
     let a = k == 0;
-    let b = orders::of_device(c);
-    !a & b
+    let demands = Demands::of(c);
+    !a & demands.device
 }
 
 // 12 BADAXIS: axis above the count.
@@ -28,8 +29,8 @@ fn no_access(d: Device, c: Command) -> bool
     ensures { λ r. ⌜ r ≡ noAccess d c ⌝ }
 {
     let a = d.access.place();
-    let b = orders::access(c) as usize;
-    a < b
+    let demands = Demands::of(c);
+    a < demands.access as usize
 }
 
 // 15 PARKED: home, move, stop and estop on a parked device.
@@ -37,19 +38,16 @@ fn parked_for(d: Device, c: Command) -> bool
     ensures { λ r. ⌜ r ≡ parkedFor d c ⌝ }
 {
     let p = d.parked;
-    let u = orders::unparked(c);
-    p & u
+    let demands = Demands::of(c);
+    p & demands.unparked
 }
 
 // 16 STATUSBUSY: some axis moves, and the command takes its axes at rest.
 fn status_busy(d: Device, k: u64, c: Command) -> bool
     ensures { λ r. ⌜ r ≡ statusBusy d k c ⌝ }
 {
-    if orders::at_rest(c) {
-        d.moving(k)
-    } else {
-        false
-    }
+    let demands = Demands::of(c);
+    if demands.rest { d.moving(k) } else { false }
 }
 
 // 11 BADDATA: value, target, reference or range, on some axis. What only shows has none of these.

@@ -14,13 +14,13 @@ use Rattle.axis.proofs.GoodStays.{settings-good, with-motion, with-settings, wi
 use Rattle.settings.specs.Settings.{allows, put}
 use Rattle.settings.proofs.GoodStays.{put-good}
 use Rattle.orders.specs.Types.{Position, Number, Setting, OfAxis, OfDevice, Command, Nothing, Home, Stop, Estop, MoveTo, MoveVel, Get, Set, Storepos, StoreposAt, StoreposCurrent, Warnings, WarningsClear, ParkingState, Park, Unpark, Echo, Idle, Homing, Axis}
-use Rattle.orders.specs.Commands.{demands, putSetting, axisAfter}
+use Rattle.orders.specs.Commands.{demands, permits, putSetting, axisAfter}
 
 set-good : (s : Setting) (n : Number) (a : Axis) → allows s n (a .settings) ≡ true → goodAxis a ≡ true → goodAxis (putSetting s n a) ≡ true
 set-good (OfAxis x) n a h good = with-settings a good (put x n (a .settings)) (put-good n (a .settings) (settings-good a good) x h)
 set-good (OfDevice x) n a h good = good
 
-pub after-good : (c : Command) (a : Axis) → demands c .permits a ≡ true → goodAxis a ≡ true → goodAxis (axisAfter c a) ≡ true
+pub after-good : (c : Command) (a : Axis) → permits c a ≡ true → goodAxis a ≡ true → goodAxis (axisAfter c a) ≡ true
 after-good Nothing a h good = good
 after-good Home a h good = with-motion a good Homing refl
 after-good Stop a h good = stopped-good a good

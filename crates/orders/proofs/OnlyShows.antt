@@ -4,10 +4,10 @@ use mathlib.Core.Path.{_≡_, refl}
 use mathlib.Core.Bool.{true}
 use Rattle.laws.proofs.Bools.{clash}
 use Rattle.orders.specs.Types.{Command, Nothing, Home, Stop, Estop, MoveTo, MoveVel, Get, Set, Storepos, StoreposAt, StoreposCurrent, Warnings, WarningsClear, ParkingState, Park, Unpark, Echo, Axis}
-use Rattle.orders.specs.Commands.{demands, axisAfter}
+use Rattle.orders.specs.Commands.{permits, axisAfter}
 use Rattle.orders.specs.Shows.{onlyShows}
 
-pub only-shows : (c : Command) → onlyShows c ≡ true → (a : Axis) → (demands c .permits a ≡ true) × (axisAfter c a ≡ a)
+pub only-shows : (c : Command) → onlyShows c ≡ true → (a : Axis) → (permits c a ≡ true) × (axisAfter c a ≡ a)
 only-shows Nothing h a = (refl, refl)
 only-shows Home h a = clash h refl
 only-shows Stop h a = clash h refl

@@ -7,18 +7,15 @@ use Rattle.settings.specs.Settings.{allows, put}
 use Rattle.axis.specs.Record.{withSettings, withMotion, stopped}
 use Rattle.axis.specs.Travel.{isPlace, mayMoveTo, mayRunAt, mayStore}
 use Rattle.axis.specs.Moves.{moved, store, cleared}
-use Rattle.orders.specs.Types.{Number, Setting, OfAxis, OfDevice, Command, Nothing, Home, Stop, Estop, MoveTo, MoveVel, Get, Set, Storepos, StoreposAt, StoreposCurrent, Warnings, WarningsClear, ParkingState, Park, Unpark, Echo, Idle, Homing, At, Axis}
+use Rattle.orders.specs.Types.{Number, Setting, OfAxis, OfDevice, Command, Nothing, Home, Stop, Estop, MoveTo, MoveVel, Get, Set, Storepos, StoreposAt, StoreposCurrent, Warnings, WarningsClear, ParkingState, Park, Unpark, Echo, Idle, Homing, At, Axis, Demands}
 
 -- scope and access; whether only an unparked device takes it; whether it takes its axes at rest; which axes permit its values
-pub record Demands : Type 0 where
-  pub device : Bool
-  pub access : ℕ
-  pub unparked : Bool
-  pub rest : Bool
+pub record Row : Type 0 where
+  pub demands : Demands
   pub permits : Axis → Bool
 
-abbrev row : Bool → ℕ → Bool → Bool → (Axis → Bool) → Demands
-row d a u r p = record { device = d; access = a; unparked = u; rest = r; permits = p }
+abbrev row : Bool → ℕ → Bool → Bool → (Axis → Bool) → Row
+row d a u r p = record { demands = record { device = d; access = a; unparked = u; rest = r }; permits = p }
 
 -- the words of the table's columns
 abbrev ofAxes : Bool
@@ -44,24 +41,30 @@ always a = true
 
 -- scope; access; "On a parked device home, move, stop and estop are rejected"; STATUSBUSY: "set of pos, limit.min,
 -- limit.max or driver.dir on a moving axis, and park with an axis moving"; what the axis permits
+abbrev pub rowOf : Command → Row
+rowOf Nothing = row ofAxes 1 anytime evenMoving always
+rowOf Home = row ofAxes 1 unparked evenMoving always
+rowOf Stop = row ofAxes 1 unparked evenMoving always
+rowOf Estop = row ofAxes 1 unparked evenMoving always
+rowOf (MoveTo t) = row ofAxes 1 unparked evenMoving (mayMoveTo t)
+rowOf (MoveVel v) = row ofAxes 1 unparked evenMoving (mayRunAt v)
+rowOf (Get s) = row (ofDevice s) (about s .get) anytime evenMoving always
+rowOf (Set s n) = row (ofDevice s) (about s .set) anytime (onlyAtRest s) (λ a. allows s n (a .settings))
+rowOf (Storepos n) = row ofAxes 1 anytime evenMoving (λ a. isPlace n)
+rowOf (StoreposAt n p) = row ofAxes 1 anytime evenMoving (mayStore n p)
+rowOf (StoreposCurrent n) = row ofAxes 1 anytime evenMoving (λ a. mayStore n (a .settings .pos) a)
+rowOf Warnings = row ofAxes 1 anytime evenMoving always
+rowOf WarningsClear = row ofAxes 1 anytime evenMoving always
+rowOf ParkingState = row device 1 anytime evenMoving always
+rowOf Park = row device 1 anytime atRest always
+rowOf Unpark = row device 1 anytime evenMoving always
+rowOf Echo = row device 1 anytime evenMoving always
+
 abbrev pub demands : Command → Demands
-demands Nothing = row ofAxes 1 anytime evenMoving always
-demands Home = row ofAxes 1 unparked evenMoving always
-demands Stop = row ofAxes 1 unparked evenMoving always
-demands Estop = row ofAxes 1 unparked evenMoving always
-demands (MoveTo t) = row ofAxes 1 unparked evenMoving (mayMoveTo t)
-demands (MoveVel v) = row ofAxes 1 unparked evenMoving (mayRunAt v)
-demands (Get s) = row (ofDevice s) (about s .get) anytime evenMoving always
-demands (Set s n) = row (ofDevice s) (about s .set) anytime (onlyAtRest s) (λ a. allows s n (a .settings))
-demands (Storepos n) = row ofAxes 1 anytime evenMoving (λ a. isPlace n)
-demands (StoreposAt n p) = row ofAxes 1 anytime evenMoving (mayStore n p)
-demands (StoreposCurrent n) = row ofAxes 1 anytime evenMoving (λ a. mayStore n (a .settings .pos) a)
-demands Warnings = row ofAxes 1 anytime evenMoving always
-demands WarningsClear = row ofAxes 1 anytime evenMoving always
-demands ParkingState = row device 1 anytime evenMoving always
-demands Park = row device 1 anytime atRest always
-demands Unpark = row device 1 anytime evenMoving always
-demands Echo = row device 1 anytime evenMoving always
+demands c = rowOf c .demands
+
+abbrev pub permits : Command → Axis → Bool
+permits c = rowOf c .permits
 
 abbrev pub putSetting : Setting → Number → Axis → Axis
 putSetting (OfAxis s) n a = withSettings (put s n (a .settings)) a

@@ -20,3 +20,4 @@ pub use Rattle.settings.specs.declared.Limit.{Limit}
 pub use Rattle.settings.specs.declared.Current.{Current}
 pub use Rattle.settings.specs.declared.Settings.{Settings}
 pub use Rattle.axis.specs.declared.Axis.{Axis}
+pub use Rattle.orders.specs.declared.Demands.{Demands}

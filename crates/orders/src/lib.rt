@@ -1,7 +1,7 @@
 // What a command demands of the device and of one axis, and what it makes of that axis.
 // One line a row of document 01's table of commands.
 ghost use mathlib.Core.Path.{_≡_};
-ghost use Rattle.orders.specs.Commands.{demands, putSetting, axisAfter};
+ghost use Rattle.orders.specs.Commands.{demands, permits, putSetting, axisAfter};
 ghost use Rattle.orders.specs.Shows.{onlyShows};
 use axis::Axis;
 use axis::Motion;
@@ -10,109 +10,67 @@ use command::Command;
 use command::Setting;
 use units::Number;
 
-// Has the command device scope?
-pub fn of_device(c: Command) -> bool
-    ensures { λ r. ⌜ r ≡ demands c .device ⌝ }
-{
-    match c {
-        Command::Nothing => false,
-        Command::Home => false,
-        Command::Stop => false,
-        Command::Estop => false,
-        Command::MoveTo(_) => false,
-        Command::MoveVel(_) => false,
-        Command::Get(s) => s.of_device(),
-        Command::Set(s, _) => s.of_device(),
-        Command::Storepos(_) => false,
-        Command::StoreposAt(_, _) => false,
-        Command::StoreposCurrent(_) => false,
-        Command::Warnings => false,
-        Command::WarningsClear => false,
-        Command::ParkingState => true,
-        Command::Park => true,
-        Command::Unpark => true,
-        Command::Echo => true,
-    }
+// What a command demands of the device and its axes, beside the values that it carries.
+pub struct Demands {
+    // device scope
+    pub device: bool,
+    // the access that it takes
+    pub access: u8,
+    // only an unparked device takes it
+    pub unparked: bool,
+    // it takes its axes at rest
+    pub rest: bool,
 }
 
-// The access that the command takes.
-pub fn access(c: Command) -> u8
-    ensures { λ r. ⌜ r ≡ demands c .access ⌝ }
-{
-    match c {
-        Command::Nothing => 1,
-        Command::Home => 1,
-        Command::Stop => 1,
-        Command::Estop => 1,
-        Command::MoveTo(_) => 1,
-        Command::MoveVel(_) => 1,
-        Command::Get(s) => s.get_access(),
-        Command::Set(s, _) => s.set_access(),
-        Command::Storepos(_) => 1,
-        Command::StoreposAt(_, _) => 1,
-        Command::StoreposCurrent(_) => 1,
-        Command::Warnings => 1,
-        Command::WarningsClear => 1,
-        Command::ParkingState => 1,
-        Command::Park => 1,
-        Command::Unpark => 1,
-        Command::Echo => 1,
+impl Demands {
+    fn row(device: bool, access: u8, unparked: bool, rest: bool) -> Demands
+        ensures { λ r. ⌜ r ≡ record { device = device; access = access; unparked = unparked; rest = rest } ⌝ }
+    {
+        Demands {
+            device,
+            access,
+            unparked,
+            rest,
+        }
     }
-}
 
-// Does only an unparked device take the command?
-pub fn unparked(c: Command) -> bool
-    ensures { λ r. ⌜ r ≡ demands c .unparked ⌝ }
-{
-    match c {
-        Command::Nothing => false,
-        Command::Home => true,
-        Command::Stop => true,
-        Command::Estop => true,
-        Command::MoveTo(_) => true,
-        Command::MoveVel(_) => true,
-        Command::Get(_) => false,
-        Command::Set(_, _) => false,
-        Command::Storepos(_) => false,
-        Command::StoreposAt(_, _) => false,
-        Command::StoreposCurrent(_) => false,
-        Command::Warnings => false,
-        Command::WarningsClear => false,
-        Command::ParkingState => false,
-        Command::Park => false,
-        Command::Unpark => false,
-        Command::Echo => false,
-    }
-}
-
-// Does the command take its axes at rest?
-pub fn at_rest(c: Command) -> bool
-    ensures { λ r. ⌜ r ≡ demands c .rest ⌝ }
-{
-    match c {
-        Command::Nothing => false,
-        Command::Home => false,
-        Command::Stop => false,
-        Command::Estop => false,
-        Command::MoveTo(_) => false,
-        Command::MoveVel(_) => false,
-        Command::Get(_) => false,
-        Command::Set(s, _) => s.only_at_rest(),
-        Command::Storepos(_) => false,
-        Command::StoreposAt(_, _) => false,
-        Command::StoreposCurrent(_) => false,
-        Command::Warnings => false,
-        Command::WarningsClear => false,
-        Command::ParkingState => false,
-        Command::Park => true,
-        Command::Unpark => false,
-        Command::Echo => false,
+    // The command's row of the table.
+    pub fn of(c: Command) -> Demands
+        ensures { λ r. ⌜ r ≡ demands c ⌝ }
+    {
+        let anytime = Demands::row(false, 1, false, false);
+        let unparked = Demands::row(false, 1, true, false);
+        let device = Demands::row(true, 1, false, false);
+        match c {
+            Command::Nothing => anytime,
+            Command::Home => unparked,
+            Command::Stop => unparked,
+            Command::Estop => unparked,
+            Command::MoveTo(_) => unparked,
+            Command::MoveVel(_) => unparked,
+            Command::Get(s) => Demands::row(s.of_device(), s.get_access(), false, false),
+            Command::Set(s, _) => Demands::row(
+                s.of_device(),
+                s.set_access(),
+                false,
+                s.only_at_rest(),
+            ),
+            Command::Storepos(_) => anytime,
+            Command::StoreposAt(_, _) => anytime,
+            Command::StoreposCurrent(_) => anytime,
+            Command::Warnings => anytime,
+            Command::WarningsClear => anytime,
+            Command::ParkingState => device,
+            Command::Park => Demands::row(true, 1, false, true),
+            Command::Unpark => device,
+            Command::Echo => device,
+        }
     }
 }
 
 // Does the axis permit the command's values?
 pub fn permits(a: Axis, c: Command) -> bool
-    ensures { λ r. ⌜ r ≡ demands c .permits a ⌝ }
+    ensures { λ r. ⌜ r ≡ permits c a ⌝ }
 {
     match c {
         Command::Nothing => true,

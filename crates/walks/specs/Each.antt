@@ -4,7 +4,7 @@ use mathlib.Core.Bool.{Bool, _&&_}
 use Prim.Native.Nat.{ℕ, _+_, _-_, min}
 use lib.Dec.{leb, ltb}
 use Rattle.reports.specs.Reports.{takes, reported}
-use Rattle.orders.specs.Commands.{demands, axisAfter}
+use Rattle.orders.specs.Commands.{permits, axisAfter}
 use Rattle.axis.specs.declared.Axis.{Axis}
 use Rattle.walks.specs.declared.Part.{Part}
 use Rattle.walks.specs.declared.Test.{Test}
@@ -13,7 +13,7 @@ use Rattle.walks.specs.declared.Change.{Change}
 use Rattle.walks.specs.declared.Change.the-variants.{Obey, Hear}
 
 abbrev pub passes : Test → Axis → Bool
-passes (Permits c) a = demands c .permits a
+passes (Permits c) a = permits c a
 passes (Takes r) a = takes r a
 
 abbrev pub changed : Change → Axis → Axis

@@ -5,12 +5,12 @@ use borrow.Author.Needs.{needs}
 use Rattle.device.proofs.refusals.device_only.Statement.{statement}
 use Rattle.device.proofs.refusals.device_only.Tie as tie
 
-of-device-requires : tie.Need-of-device-requires
-of-device-requires c κs = search needs
+of-requires : tie.Need-of-requires
+of-requires c κs = search needs
 
 returns : tie.Need-returns
 unfolding deviceOnly
-returns c = simp (c .of-device .ensures)
+returns c = simp (c .before .of .ensures)
 
 pub device-only-spec : {M : Type 1} → statement M
-device-only-spec = tie.close (tie.spec of-device-requires returns)
+device-only-spec = tie.close (tie.spec of-requires returns)

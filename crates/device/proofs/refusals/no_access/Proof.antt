@@ -8,15 +8,15 @@ use Rattle.device.proofs.refusals.no_access.Tie as tie
 place-requires : tie.Need-place-requires
 place-requires c κs = search needs
 
-access-requires : tie.Need-access-requires
-access-requires c κs = search needs
+of-requires : tie.Need-of-requires
+of-requires c κs = search needs
 
-cast-b : tie.Need-cast-b
-cast-b c = search needs
+cast-result : tie.Need-cast-result
+cast-result c = search needs
 
 returns : tie.Need-returns
 unfolding noAccess
-returns c = simp (c .access .ensures, c .before .place .ensures)
+returns c = simp (c .before .of .ensures, c .before .before .place .ensures)
 
 pub no-access-spec : {M : Type 1} → statement M
-no-access-spec = tie.close (tie.spec place-requires access-requires cast-b returns)
+no-access-spec = tie.close (tie.spec place-requires of-requires cast-result returns)

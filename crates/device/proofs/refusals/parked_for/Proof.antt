@@ -5,12 +5,12 @@ use borrow.Author.Needs.{needs}
 use Rattle.device.proofs.refusals.parked_for.Statement.{statement}
 use Rattle.device.proofs.refusals.parked_for.Tie as tie
 
-unparked-requires : tie.Need-unparked-requires
-unparked-requires c κs = search needs
+of-requires : tie.Need-of-requires
+of-requires c κs = search needs
 
 returns : tie.Need-returns
 unfolding parked
-returns c = simp (c .unparked .ensures)
+returns c = simp (c .before .of .ensures)
 
 pub parked-for-spec : {M : Type 1} → statement M
-parked-for-spec = tie.close (tie.spec unparked-requires returns)
+parked-for-spec = tie.close (tie.spec of-requires returns)
