@@ -3,7 +3,7 @@
 ghost use mathlib.Core.Path.{_≡_};
 ghost use lib.IntN.{pos, natAbs};
 ghost use lib.Signed.{leZ, ltZ};
-ghost use Rattle.units.specs.Units.{position, speed, number, place, _to_, within};
+ghost use Rattle.units.specs.Units.{position, speed, number, place, _to_, within, bound};
 use crate::Number;
 use crate::Position;
 use crate::Range;
@@ -71,5 +71,12 @@ impl Number {
         let a = range.least.at_most(self);
         let b = self.at_most(range.most);
         a & b
+    }
+
+    // No position and no speed lies beyond this bound.
+    pub fn bounded(self) -> bool
+        ensures { λ r. ⌜ r ≡ within bound (self .0) ⌝ }
+    {
+        self.within(Number(-1000000000).to(Number(1000000000)))
     }
 }
