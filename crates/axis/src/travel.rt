@@ -59,7 +59,8 @@ impl Axis {
     pub fn aim(self, t: Target) -> Reach
         ensures { λ r. ⌜ r ≡ aimOf t self ⌝ }
     {
-        if self.reference {
+        let known = self.reference;
+        if known {
             self.within_limits(t)
         } else {
             Reach::Beyond

@@ -76,7 +76,7 @@ impl Settings {
         }
     }
 
-    pub fn range(self, s: AxisSetting) -> Range
+    fn range(self, s: AxisSetting) -> Range
         ensures { λ r. ⌜ r ≡ rangeOf s self ⌝ }
     {
         let low = self.limit.min.number();
@@ -117,7 +117,7 @@ impl Settings {
         }
     }
 
-    pub fn in_range(self, s: AxisSetting) -> bool
+    fn in_range(self, s: AxisSetting) -> bool
         ensures { λ r. ⌜ r ≡ inRange self s ⌝ }
     {
         self.value(s).within(self.range(s))

@@ -118,10 +118,10 @@ pub fn past_words(s: &[u8], many: usize) -> usize
     ensures others { λ r. ⌜ cut (drop r (now (s .entry))) ≡ drop many (cut (now (s .entry))) ⌝ }
 {
     let mut at: usize = 0;
-    let mut i: usize = 0;
-    while i < many {
+    let mut passed: usize = 0;
+    while passed < many {
         at = past_word(s, at);
-        i += 1;
+        passed += 1;
     }
     at
 }

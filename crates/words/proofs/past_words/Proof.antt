@@ -1,4 +1,4 @@
--- `words::past_words` meets its contract. Invariant: i words are passed.
+-- `words::past_words` meets its contract. Invariant: so many words are passed.
 -- Assumes nothing.
 use borrow.Author.Needs.{needs}
 use mathlib.Core.Path.{_≡_, refl, ap, _∙_}
@@ -24,8 +24,8 @@ loop-holds c = (omega arith, refl, refl)
 past-word-requires : tie.Need-past-word-requires Inv-loop μ-loop
 past-word-requires c κs = search needs
 
-add-i : tie.Need-add-i Inv-loop μ-loop
-add-i c = omega arith
+add-passed : tie.Need-add-passed Inv-loop μ-loop
+add-passed c = omega arith
 
 loop-less : tie.Need-loop-less Inv-loop μ-loop
 loop-less c = omega arith
@@ -37,16 +37,16 @@ loop-again c =
     let s = l .before .before .args .s .now in (
       omega arith,
       c .past-word .ensures .0 ∙ rw (add-one) (ap (pastOf s) (l .loop .inv .1)),
-      nth-more (cut s) (l .loop .i) _ _ (c .past-word .ensures .1) (l .loop .inv .2),
+      nth-more (cut s) (l .loop .passed) _ _ (c .past-word .ensures .1) (l .loop .inv .2),
     )
 
 returns : tie.Need-returns Inv-loop μ-loop
 returns c =
     let l = c .before .loop in
-    let e : l .i ≡ c .before .before .before .args .many = omega arith in
+    let e : l .passed ≡ c .before .before .before .args .many = omega arith in
     (rw e at (l .inv .1), rw e at (l .inv .2))
 
 pub past-words-spec : {M : Type 1} → statement M
 past-words-spec =
     tie.close
-    (tie.spec Inv-loop μ-loop loop-holds past-word-requires add-i loop-less loop-again returns)
+    (tie.spec Inv-loop μ-loop loop-holds past-word-requires add-passed loop-less loop-again returns)
