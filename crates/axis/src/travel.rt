@@ -59,8 +59,7 @@ impl Axis {
     pub fn aim(self, t: Target) -> Reach
         ensures { λ r. ⌜ r ≡ aimOf t self ⌝ }
     {
-        let known = self.reference;
-        if known {
+        if self.reference {
             self.within_limits(t)
         } else {
             Reach::Beyond
