@@ -4,7 +4,7 @@ use command::AxisSetting;
 use command::Command;
 use command::Setting;
 use command::Target;
-use fields::field;
+use hearing::fields::field;
 use host::Heard;
 use host::ReplyRead;
 use libc::STDOUT_FILENO;

@@ -4,13 +4,13 @@ ghost use mathlib.Core.Path.{_≡_};
 ghost use Prim.Native.Nat.{_+_};
 ghost use Rattle.number.specs.Reading.{saysSum};
 ghost use Rattle.host.specs.Reading.{dataLength, rightEnd, framed, readReply};
-use fields::byte_at;
-use fields::field;
-use fields::is_marked;
-use fields::read_head;
-use fields::rest;
-use fields::right_head;
-use fields::stands_at;
+use crate::fields::byte_at;
+use crate::fields::field;
+use crate::fields::is_marked;
+use crate::fields::read_head;
+use crate::fields::rest;
+use crate::fields::right_head;
+use crate::fields::stands_at;
 use host::Heard;
 use host::ReplyRead;
 use host::data_byte;
@@ -83,3 +83,5 @@ pub fn read_reply(line: &[u8]) -> ReplyRead
     }
     ReplyRead::NotReply
 }
+
+pub mod fields;

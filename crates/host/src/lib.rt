@@ -1,5 +1,5 @@
-// What a reply says, as types, and what its data may hold. The code that reads a reply stands in the crates above: fields
-// and hearing. The spelling is in specs/Spelling.antt, and proofs/Replies.antt shows that just that is read.
+// What a reply says, as types, and what its data may hold. The code that reads a reply stands in the crate above,
+// hearing. The spelling is in specs/Spelling.antt, and proofs/Replies.antt shows that just that is read.
 ghost use mathlib.Core.Path.{_≡_};
 ghost use Rattle.host.specs.Reading.{dataByte};
 

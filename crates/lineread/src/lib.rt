@@ -23,7 +23,7 @@ fn starts_number(w: &[u8]) -> bool
     if w[0] == b'-' {
         return true;
     }
-    numeral::digit_value(w[0]) < 10
+    numread::numeral::digit_value(w[0]) < 10
 }
 
 // The digit that the word is, or 99.
@@ -31,7 +31,7 @@ fn axis_digit(w: &[u8]) -> u64
     ensures { λ r. ⌜ r ≡ axisDigit (now (w .entry)) ⌝ }
 {
     if w.len() == 1 {
-        return numeral::digit_value(w[0]);
+        return numread::numeral::digit_value(w[0]);
     }
     99
 }

@@ -2,11 +2,11 @@
 // The rules are in number/specs/Reading.antt; number/proofs/Numbers.antt shows that just what is spelled is read.
 ghost use mathlib.Core.Path.{_≡_};
 ghost use Rattle.number.specs.Reading.{AtMost, readAddress as addressIn, above, below, readNumber as numberIn, readPair as pairIn};
+use crate::numeral::digit_value;
+use crate::numeral::unsigned;
 use number::NumberRead;
 use number::PairRead;
 use number::UnsignedRead;
-use numeral::digit_value;
-use numeral::unsigned;
 use units::Number;
 
 // A word as an address.
@@ -71,3 +71,5 @@ pub fn read_pair(h: u8, l: u8) -> PairRead
     }
     PairRead::Value((high * 16 + low) as u8)
 }
+
+pub mod numeral;

@@ -10,9 +10,9 @@ use Rattle.axis.specs.Moves.{moved, store, cleared}
 use Rattle.orders.specs.Types.{Number, Setting, OfAxis, OfDevice, Command, Nothing, Home, Stop, Estop, MoveTo, MoveVel, Get, Set, Storepos, StoreposAt, StoreposCurrent, Warnings, WarningsClear, ParkingState, Park, Unpark, Echo, Idle, Homing, At, Axis, Demands}
 
 -- scope and access; whether only an unparked device takes it; whether it takes its axes at rest; which axes permit its values
-pub record Row : Type 0 where
-  pub demands : Demands
-  pub permits : Axis → Bool
+record Row : Type 0 where
+  demands : Demands
+  permits : Axis → Bool
 
 abbrev row : Bool → ℕ → Bool → Bool → (Axis → Bool) → Row
 row d a u r p = record { demands = record { device = d; access = a; unparked = u; rest = r }; permits = p }
@@ -41,7 +41,7 @@ always a = true
 
 -- scope; access; "On a parked device home, move, stop and estop are rejected"; STATUSBUSY: "set of pos, limit.min,
 -- limit.max or driver.dir on a moving axis, and park with an axis moving"; what the axis permits
-abbrev pub rowOf : Command → Row
+abbrev rowOf : Command → Row
 rowOf Nothing = row ofAxes 1 anytime evenMoving always
 rowOf Home = row ofAxes 1 unparked evenMoving always
 rowOf Stop = row ofAxes 1 unparked evenMoving always
@@ -60,6 +60,7 @@ rowOf Park = row device 1 anytime atRest always
 rowOf Unpark = row device 1 anytime evenMoving always
 rowOf Echo = row device 1 anytime evenMoving always
 
+-- the questions that the rules ask of the table
 abbrev pub demands : Command → Demands
 demands c = rowOf c .demands
 

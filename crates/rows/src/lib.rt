@@ -1,6 +1,6 @@
 // A command parted by its first word; a name, a number and a message written into a lent buffer.
-// specs/Rows.antt says the words of each command; specs/Phrases.antt parts the commands, as the code above does: the crates
-// moverows, toolrows and wording.
+// specs/Rows.antt says the words of each command; specs/Phrases.antt parts the commands, as the code does in moverows.rt,
+// toolrows.rt and the crate above, wording.
 ghost use mathlib.Core.Path.{_≡_};
 ghost use mathlib.Core.List.{_++_};
 ghost use Rattle.laws.proofs.Spaced.{trail};
@@ -130,3 +130,6 @@ pub fn put_message(buf: &mut [u8], at: usize, message: &[u8]) -> usize
     }
     next
 }
+
+pub mod moverows;
+pub mod toolrows;

@@ -4,8 +4,8 @@ ghost use mathlib.Core.Path.{_≡_};
 ghost use Rattle.laws.specs.Lists.{all};
 ghost use Rattle.host.specs.Reading.{dataByte};
 ghost use Rattle.writer.specs.Writing.{unfit, unspellable, outcome, writeLine};
+use crate::linetext::put_line;
 use command::Command;
-use linetext::put_line;
 use wire::put_text;
 use writer::Written;
 
@@ -73,3 +73,5 @@ pub fn write_command(
     let length = put_text(buf, 0, &line[..end]);
     Written { number: 0, length }
 }
+
+mod linetext;

@@ -7,9 +7,8 @@ use Prim.Native.Nat.{ℕ, _+_, _-_, _≤_, _<_, min}
 use native.Mathlib.Omega.{arith}
 use lib.ListN.{length, take, drop, replicate, drop-of-length-le}
 use Rattle.laws.specs.Text.{text}
-use Rattle.laws.proofs.Answers.{one-answer}
 use Rattle.wire.specs.Wrote.{Wrote}
-use Rattle.wire.proofs.Wrote.{_▸_, wrote-none, wrote-one}
+use Rattle.wire.proofs.Wrote.{_▸_, wrote-none}
 use Rattle.state.specs.declared.Device.{Device}
 use Rattle.state.specs.declared.Outcome.{Outcome}
 use Rattle.carriage.specs.declared.Answer.{Answer}
@@ -75,12 +74,3 @@ module _ {first : Device} {s b : List ℕ} {d : Device} {o : List ℕ} {place at
 pub ran : (s b : List ℕ) {n : ℕ} {d : Device} {c : List ℕ} {r : ℕ} → n ≡ min 4096 (length s) → d ≡ benchDevice → Wrote b 0 (turns d (parts (take n s))) c r → Wrote b 0 (bench s) c r
 unfolding bench
 ran s b {n} e q w = rw (← first-bytes n 4096 s e, ← q) w
-
-turned-same : {p o : ℕ} {d e : Device} → p ≡ o → d ≡ e → _≡_ {A = Turned} (record { place = p; next = d }) (record { place = o; next = e })
-turned-same p d = rw (p, d)
-
--- The promise of a turn leaves no choice: two results and outputs that meet it are the same.
-pub took-one : {t : Turn} {b : List ℕ} {at : ℕ} {r q : Turned} {c o : List ℕ} → Took t b at r c → Took t b at q o → (r ≡ q) × (c ≡ o)
-took-one h k =
-    let w = wrote-one (h .prints) (k .prints) in
-    (turned-same (w .1) (one-answer (h .next) (k .next)), w .0)

@@ -54,7 +54,7 @@ fn line_turn(d: Device, part: &[u8], out: &mut [u8], at: usize) -> Turned
 }
 
 // What one part makes of a record, and what it prints.
-pub fn turn(d: Device, part: &[u8], out: &mut [u8], at: usize) -> Turned
+fn turn(d: Device, part: &[u8], out: &mut [u8], at: usize) -> Turned
     ensures { λ t. ⌜ Took (turnOf d (now (part .entry))) (now (out .entry)) at t (now (out .exit)) ⌝ }
 {
     if is_report(part) {
@@ -65,7 +65,7 @@ pub fn turn(d: Device, part: &[u8], out: &mut [u8], at: usize) -> Turned
 }
 
 // The record that bench begins with.
-pub fn bench_device() -> Device
+fn bench_device() -> Device
     ensures { λ r. ⌜ r ≡ benchDeviceOf ⌝ }
 {
     Device::new(Number(1), 2, Number(100))

@@ -7,14 +7,14 @@ ghost use Rattle.wire.specs.Wrote.{Wrote};
 ghost use Rattle.rows.specs.Phrases.{phraseOf, phraseWords};
 ghost use Rattle.rows.specs.Rows.{commandWords};
 use command::Command;
-use moverows::put_plain;
-use moverows::put_target;
 use rows::Phrase;
 use rows::Plain;
 use rows::Tool;
+use rows::moverows::put_plain;
+use rows::moverows::put_target;
 use rows::put_numbered;
 use rows::put_setting;
-use toolrows::put_tool;
+use rows::toolrows::put_tool;
 use wire::put_text;
 
 fn phrase_of(c: Command) -> Phrase

@@ -1,4 +1,4 @@
-// What the command writer answers, as a type. The code that writes stands in the crates above: linetext and sender.
+// What the command writer answers, as a type. The code that writes stands in the crate above, sender.
 // specs/Writing.antt says the line.
 
 // A refusal's number and length 0, or 0 and the line's length.
