@@ -7,6 +7,14 @@ use orders::Demands;
 use state::Device;
 use walks::Test;
 
+// 12 BADAXIS: axis above the count.
+fn bad_axis(d: Device, k: u64) -> bool
+    ensures { λ r. ⌜ r ≡ badAxis d k ⌝ }
+{
+    let n = d.count as u64;
+    n < k
+}
+
 // 13 DEVICEONLY: axis not 0, device scope.
 fn device_only(k: u64, c: Command) -> bool
     ensures { λ r. ⌜ r ≡ deviceOnly k c ⌝ }
@@ -14,14 +22,6 @@ fn device_only(k: u64, c: Command) -> bool
     let a = k == 0;
     let demands = Demands::of(c);
     !a & demands.device
-}
-
-// 12 BADAXIS: axis above the count.
-fn bad_axis(d: Device, k: u64) -> bool
-    ensures { λ r. ⌜ r ≡ badAxis d k ⌝ }
-{
-    let n = d.count as u64;
-    n < k
 }
 
 // 14 NOACCESS: access too low.
