@@ -4,6 +4,7 @@ use Prim.Native.Nat.{ℕ}
 use Rattle.laws.specs.Lists as LawsLists
 use Rattle.laws.specs.Refusals as LawsRefusals
 use Rattle.laws.specs.Text as LawsText
+use Rattle.number.specs.Checksum as NumberChecksum
 use Rattle.number.specs.Decimal as NumberDecimal
 use Rattle.flags.specs.Flags as Flags
 use Rattle.command.specs.Settings as CommandSettings
@@ -30,7 +31,7 @@ unfolding LawsLists.fold LawsLists.span LawsLists.changeFirst LawsLists.changeFr
 openLaws = 0
 
 unfoldable openNumber : ℕ
-unfolding NumberDecimal.lastDigit NumberDecimal.digitsWithin NumberDecimal.digits NumberDecimal.decimal NumberDecimal.twoDigits NumberDecimal.hexDigit NumberDecimal.hexPair
+unfolding NumberChecksum.sumText NumberDecimal.lastDigit NumberDecimal.digitsWithin NumberDecimal.digits NumberDecimal.decimal NumberDecimal.twoDigits NumberDecimal.hexDigit NumberDecimal.hexPair
 openNumber = 0
 
 unfoldable openFlags : ℕ

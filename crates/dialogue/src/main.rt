@@ -4,7 +4,7 @@ use command::AxisSetting;
 use command::Command;
 use command::Setting;
 use command::Target;
-use hearing::fields::field;
+use hearing::field;
 use host::Heard;
 use host::ReplyRead;
 use libc::STDOUT_FILENO;

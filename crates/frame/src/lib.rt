@@ -2,10 +2,8 @@
 // The rules are in line/specs/Reading.antt.
 ghost use mathlib.Core.Path.{_≡_};
 ghost use Rattle.laws.specs.Lists.{span};
-ghost use Rattle.number.specs.Reading.{saysSum};
 ghost use Rattle.line.specs.Reading.{printable, noColon, isEnd, isFooter, parted, afterSlash, frameOf};
 use line::Frame;
-use number::PairRead;
 
 // How many bytes from the front are no forbidden ones.
 pub fn printable_len(s: &[u8]) -> usize
@@ -64,16 +62,6 @@ pub fn is_footer(f: &[u8]) -> bool
     false
 }
 
-// Does the pair say the checksum of the content?
-fn says_sum(s: &[u8], p: PairRead) -> bool
-    ensures { λ r. ⌜ r ≡ saysSum (now (s .entry)) p ⌝ }
-{
-    match p {
-        PairRead::Value(n) => n == number::checksum(s),
-        PairRead::Refused => false,
-    }
-}
-
 // The bytes between `/` and footer.
 fn read_body(b: &[u8]) -> Frame
     ensures { λ r. ⌜ r ≡ parted (now (b .entry)) ⌝ }
@@ -85,7 +73,7 @@ fn read_body(b: &[u8]) -> Frame
     if b.len() - c != 3 {
         return Frame::Refused(3);
     }
-    if says_sum(&b[..c], numread::read_pair(b[c + 1], b[c + 2])) {
+    if numread::says_sum(&b[..c], numread::read_pair(b[c + 1], b[c + 2])) {
         return Frame::Content(c);
     }
     Frame::Refused(3)

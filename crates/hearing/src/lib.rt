@@ -2,10 +2,9 @@
 // The rules are in host/specs/Reading.antt; host/proofs/Replies.antt shows that just what is spelled is read.
 ghost use mathlib.Core.Path.{_≡_};
 ghost use Prim.Native.Nat.{_+_};
-ghost use Rattle.number.specs.Reading.{saysSum};
 ghost use Rattle.host.specs.Reading.{dataLength, rightEnd, framed, readReply};
 use crate::fields::byte_at;
-use crate::fields::field;
+pub use crate::fields::field;
 use crate::fields::is_marked;
 use crate::fields::read_head;
 use crate::fields::rest;
@@ -14,7 +13,6 @@ use crate::fields::stands_at;
 use host::Heard;
 use host::ReplyRead;
 use host::data_byte;
-use number::PairRead;
 use words::same_bytes;
 
 // The place behind the data.
@@ -32,16 +30,6 @@ fn data_end(line: &[u8]) -> usize
     i
 }
 
-// Does the pair say the checksum of s?
-fn says_sum(s: &[u8], p: PairRead) -> bool
-    ensures { λ r. ⌜ r ≡ saysSum (now (s .entry)) p ⌝ }
-{
-    match p {
-        PairRead::Value(n) => n == number::checksum(s),
-        PairRead::Refused => false,
-    }
-}
-
 // Is e an end behind s: CR LF, or the checksum of s and CR LF?
 fn right_end(s: &[u8], e: &[u8]) -> bool
     ensures { λ r. ⌜ r ≡ rightEnd (now (s .entry)) (now (e .entry)) ⌝ }
@@ -49,7 +37,7 @@ fn right_end(s: &[u8], e: &[u8]) -> bool
     let bare = same_bytes(e, b"\r\n");
     let colon = stands_at(e, 0, b":");
     let footer = same_bytes(rest(e, 3), b"\r\n");
-    let sum = says_sum(s, numread::read_pair(byte_at(e, 1), byte_at(e, 2)));
+    let sum = numread::says_sum(s, numread::read_pair(byte_at(e, 1), byte_at(e, 2)));
     bare | (colon & footer & sum)
 }
 
@@ -84,4 +72,4 @@ pub fn read_reply(line: &[u8]) -> ReplyRead
     ReplyRead::NotReply
 }
 
-pub mod fields;
+mod fields;

@@ -6,17 +6,13 @@ use mathlib.Core.Bool.{true, false, _&&_}
 use mathlib.Core.List.{List, [], _∷_}
 use Prim.Native.Nat.{ℕ, zero, suc, _+_, _*_, _-_, _≤_, _<_, min}
 use native.Mathlib.Omega.{arith}
-use lib.Dec.{eqb, ltb}
+use lib.Dec.{ltb}
 use lib.ListN.{length, getD, take, drop, drop-of-length-le}
 use lib.Seq.{take-all, drop-length}
 use borrow.Author.Tests.{ltb-true}
 use Rattle.laws.proofs.Order.{lt-or-le}
 use Rattle.laws.proofs.Bools.{and-left, and-right}
 use Rattle.laws.proofs.Lists.{rest}
-use Rattle.number.specs.Checksum.{checksum}
-use Rattle.number.specs.declared.PairRead.{PairRead}
-use Rattle.number.specs.declared.PairRead.the-variants as Pair
-use Rattle.number.specs.Reading.{saysSum}
 use Rattle.host.specs.Reading.{twoOf}
 
 pub past-end : (s : List ℕ) (at : ℕ) → length s ≤ at → 0 ≡ getD s at 0
@@ -51,6 +47,3 @@ module _ (tens ones : ℕ) where
   pub two-no : (ltb tens 10 && ltb ones 10) ≡ false → 0 ≡ twoOf tens ones
   unfolding twoOf
   two-no h = rw h
-
-pub sum-said : (s : List ℕ) (p : PairRead) (n sum : ℕ) → p ≡ Pair.Value n → sum ≡ checksum s → eqb n sum ≡ saysSum s p
-sum-said s p n sum e q = rw (e, q)

@@ -17,7 +17,7 @@ use Rattle.flags.specs.Flags.{warningNames, bits, first}
 use Rattle.data.specs.Parts.{warningAt}
 use Rattle.reply.specs.Reply.{verdict, status, highest, body, ending, reply}
 use Rattle.reply.specs.declared.Head.{Head}
-use Rattle.reply.proofs.Texts.{highest-is, ending-sum, ending-bare}
+use Rattle.reply.proofs.Texts.{highest-is, sum-wanted, sum-unwanted}
 use Rattle.reply.proofs.Room.{reply-length}
 use Rattle.host.specs.Spelling.{Address, Axis, Verdict, accepted, rejected, Status, idle, busy, Warning, fd, fq, fs, ft, fb, fp, fe, wr, Data, End, bare, summed}
 use Rattle.host.specs.Spelling as spelling
@@ -84,8 +84,9 @@ unfolding checksum
 sum-byte s = omega arith
 
 end-spelled : (sum : Bool) (s : List ℕ) → End s (ending sum s)
-end-spelled true s = rw (ending-sum true s refl) (summed (pair-spelled (checksum s) (sum-byte s)))
-end-spelled false s = rw (ending-bare false s refl) bare
+unfolding ending
+end-spelled true s = rw (sum-wanted true s refl) (summed (pair-spelled (checksum s) (sum-byte s)))
+end-spelled false s = rw (sum-unwanted false s refl) bare
 
 -- ---- the whole
 module _ (h : Head) (sum : Bool) (words : List ℕ) (some : 1 ≤ h .address) (most : h .address ≤ 99) (one : h .axis ≤ 9) (said : Data words) (short : length words ≤ 74) where

@@ -1,7 +1,7 @@
-// Reads a number's word: its value, or the place in the word that made it refuse. Reads hex pairs.
+// Reads a number's word: its value, or the place in the word that made it refuse. Reads hex pairs, and holds them against a checksum.
 // The rules are in number/specs/Reading.antt; number/proofs/Numbers.antt shows that just what is spelled is read.
 ghost use mathlib.Core.Path.{_≡_};
-ghost use Rattle.number.specs.Reading.{AtMost, readAddress as addressIn, above, below, readNumber as numberIn, readPair as pairIn};
+ghost use Rattle.number.specs.Reading.{AtMost, readAddress as addressIn, above, below, readNumber as numberIn, readPair as pairIn, saysSum};
 use crate::numeral::digit_value;
 use crate::numeral::unsigned;
 use number::NumberRead;
@@ -70,6 +70,16 @@ pub fn read_pair(h: u8, l: u8) -> PairRead
         return PairRead::Refused;
     }
     PairRead::Value((high * 16 + low) as u8)
+}
+
+// Does the pair say the checksum of s?
+pub fn says_sum(s: &[u8], p: PairRead) -> bool
+    ensures { λ r. ⌜ r ≡ saysSum (now (s .entry)) p ⌝ }
+{
+    match p {
+        PairRead::Value(n) => n == number::checksum(s),
+        PairRead::Refused => false,
+    }
 }
 
 pub mod numeral;

@@ -15,7 +15,7 @@ use Rattle.laws.specs.Text.{text, spaced}
 use Rattle.laws.specs.Refusals.{firstOf}
 use Rattle.laws.proofs.Bools.{clash, or-left, or-right}
 use Rattle.laws.proofs.Each.{more}
-use Rattle.number.specs.Checksum.{checksum}
+use Rattle.number.specs.Checksum.{checksum, sumText}
 use Rattle.number.specs.Decimal.{lastDigit, digits, hexPair}
 use Rattle.number.specs.Spelling.{Digit}
 use Rattle.number.proofs.Decimal.{digits-one, address-spelled, pair-spelled}
@@ -42,7 +42,8 @@ sum-byte : (s : List ℕ) → checksum s < 256
 unfolding checksum
 sum-byte s = omega arith
 
-checked : (sum : Bool) (s : List ℕ) → Checksum s (cond sum (text ":" ++ hexPair (checksum s)) [])
+checked : (sum : Bool) (s : List ℕ) → Checksum s (sumText sum s)
+unfolding sumText
 checked true s = Checksum.sum (pair-spelled (checksum s) (sum-byte s))
 checked false s = Checksum.none
 
@@ -87,7 +88,7 @@ module _ (address axis : ℕ) (c : Command) (message : List ℕ) (sum : Bool) (b
     unfolding lineText lineEnd lineWords text
     line-spelled =
         let a = accepted ok in
-        let k = cond sum (text ":" ++ hexPair (checksum s)) [] in
+        let k = sumText sum s in
         let same : text "/" ++ s ++ (k ++ text "\n") ≡ text "/" ++ s ++ k ++ text "\n" = sym (append-assoc (text "/" ++ s) k (text "\n")) in
         rw same
         (Line.line

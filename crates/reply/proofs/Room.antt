@@ -8,6 +8,7 @@ use native.Mathlib.Nat.{zero-add}
 use native.Mathlib.Omega.{arith}
 use lib.ListN.{length, take, drop, length-append}
 use Rattle.laws.specs.Text.{text}
+use Rattle.number.specs.Checksum.{sumText}
 use Rattle.number.specs.Decimal.{digits, twoDigits, hexPair}
 use Rattle.number.proofs.Decimal.{digits-length}
 use Rattle.wire.specs.Wrote.{Wrote}
@@ -44,7 +45,7 @@ highest-length : (m : ℕ) → length (highest m) ≡ 2
 highest-length m = rw (← highest-is m) (warning-length (first (bits 8 m)))
 
 ending-length : (sum : Bool) (s : List ℕ) → length (ending sum s) ≤ 5
-unfolding ending hexPair text
+unfolding ending sumText hexPair text
 ending-length true s = omega arith
 ending-length false s = omega arith
 

@@ -10,13 +10,13 @@ use lib.ListN.{length, take, drop}
 use lib.Seq.{take-all, take-nil}
 use Rattle.laws.specs.Text.{space, text, spaced}
 use Rattle.laws.proofs.Order.{lt-or-le}
-use Rattle.number.specs.Checksum.{checksum}
+use Rattle.number.specs.Checksum.{checksum, sumText}
 use Rattle.number.specs.Decimal.{digits, twoDigits, hexPair}
 use Rattle.flags.specs.Flags.{bits, first}
 use Rattle.flags.proofs.Names.{warnings-highest}
 use Rattle.data.specs.Data.{warningsIn}
 use Rattle.data.specs.Parts.{warningAt}
-use Rattle.reply.specs.Reply.{verdict, status, highest, body, ending}
+use Rattle.reply.specs.Reply.{verdict, status, highest, body}
 use Rattle.reply.specs.declared.Head.{Head}
 
 -- the highest warning stands at the place of the first flag
@@ -57,10 +57,10 @@ between (c ∷ b) (suc at) e f p q =
         (λ h. let m : min k (length l) ≡ k = omega arith in rw m)
         (lt-or-le (length l) k)
 
-pub ending-sum : (sum : Bool) (s : List ℕ) → sum ≡ true → ending sum s ≡ text ":" ++ hexPair (checksum s) ++ text "\r\n"
-unfolding ending
-ending-sum sum s h = rw h
+pub sum-wanted : (wanted : Bool) (s : List ℕ) → wanted ≡ true → sumText wanted s ≡ text ":" ++ hexPair (checksum s)
+unfolding sumText
+sum-wanted wanted s h = rw h
 
-pub ending-bare : (sum : Bool) (s : List ℕ) → sum ≡ false → ending sum s ≡ text "\r\n"
-unfolding ending
-ending-bare sum s h = rw h
+pub sum-unwanted : (wanted : Bool) (s : List ℕ) → wanted ≡ false → sumText wanted s ≡ []
+unfolding sumText
+sum-unwanted wanted s h = rw h

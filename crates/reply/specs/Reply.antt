@@ -5,8 +5,8 @@ use mathlib.Core.List.{List, [], _∷_, _++_}
 use Prim.Native.Nat.{ℕ}
 use lib.ListN.{getD}
 use Rattle.laws.specs.Text.{text, spaced}
-use Rattle.number.specs.Checksum.{checksum}
-use Rattle.number.specs.Decimal.{digits, twoDigits, hexPair}
+use Rattle.number.specs.Checksum.{sumText}
+use Rattle.number.specs.Decimal.{digits, twoDigits}
 use Rattle.data.specs.Data.{warningsIn}
 use Rattle.reply.specs.declared.Head.{Head}
 
@@ -26,7 +26,7 @@ body h words = spaced (twoDigits (h .address) ∷ digits (h .axis) ∷ verdict (
 
 -- the checksum of s, where it is wanted, and the footer
 unfoldable pub ending : Bool → List ℕ → List ℕ
-ending sum s = cond sum (text ":" ++ hexPair (checksum s)) [] ++ text "\r\n"
+ending sum s = sumText sum s ++ text "\r\n"
 
 unfoldable pub reply : Head → Bool → List ℕ → List ℕ
 reply h sum words = text "@" ++ body h words ++ ending sum (body h words)

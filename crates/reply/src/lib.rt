@@ -4,7 +4,7 @@ ghost use mathlib.Core.Path.{_≡_};
 ghost use mathlib.Core.List.{_++_};
 ghost use lib.ListN.{take, drop};
 ghost use Rattle.laws.specs.Text.{text};
-ghost use Rattle.number.specs.Checksum.{checksum};
+ghost use Rattle.number.specs.Checksum.{checksum, sumText};
 ghost use Rattle.wire.specs.Wrote.{Wrote};
 ghost use Rattle.reply.specs.Reply.{verdict, status, body, ending};
 use data::lesser;
@@ -62,7 +62,7 @@ pub fn put_head(buf: &mut [u8], at: usize, h: Head) -> usize
 }
 
 // The checksum of what stands in the buffer behind its first byte and before the place.
-pub fn summed(buf: &[u8], at: usize) -> u8
+fn summed(buf: &[u8], at: usize) -> u8
     ensures { λ r. ⌜ r ≡ checksum (drop 1 (take at (now (buf .entry)))) ⌝ }
 {
     let end = lesser(at, buf.len());
@@ -70,16 +70,23 @@ pub fn summed(buf: &[u8], at: usize) -> u8
     number::checksum(&buf[from..end])
 }
 
-// That checksum, if it is wanted, and the footer.
+// That checksum behind a colon, if it is wanted.
+pub fn put_sum(buf: &mut [u8], at: usize, wanted: bool) -> usize
+    ensures { λ r. ⌜ Wrote (now (buf .entry)) at (sumText wanted (drop 1 (take at (now (buf .entry))))) (now (buf .exit)) r ⌝ }
+{
+    if wanted {
+        let c = summed(buf, at);
+        let colon = put_byte(buf, at, b':');
+        put_pair(buf, colon, c)
+    } else {
+        at
+    }
+}
+
+// The checksum, if it is wanted, and the footer.
 pub fn put_end(buf: &mut [u8], at: usize, sum: bool) -> usize
     ensures { λ r. ⌜ Wrote (now (buf .entry)) at (ending sum (drop 1 (take at (now (buf .entry))))) (now (buf .exit)) r ⌝ }
 {
-    if sum {
-        let c = summed(buf, at);
-        let colon = put_byte(buf, at, b':');
-        let pair = put_pair(buf, colon, c);
-        put_text(buf, pair, b"\r\n")
-    } else {
-        put_text(buf, at, b"\r\n")
-    }
+    let end = put_sum(buf, at, sum);
+    put_text(buf, end, b"\r\n")
 }

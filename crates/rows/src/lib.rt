@@ -1,10 +1,9 @@
-// A command parted by its first word; a name, a number and a message written into a lent buffer.
+// A command parted by its first word; a name and a message written into a lent buffer.
 // specs/Rows.antt says the words of each command; specs/Phrases.antt parts the commands, as the code does in moverows.rt,
 // toolrows.rt and the crate above, wording.
 ghost use mathlib.Core.Path.{_≡_};
 ghost use mathlib.Core.List.{_++_};
 ghost use Rattle.laws.proofs.Spaced.{trail};
-ghost use Rattle.number.specs.Decimal.{decimal};
 ghost use Rattle.words.specs.Cutting.{cut};
 ghost use Rattle.command.specs.Settings.{nameOf};
 ghost use Rattle.wire.specs.Wrote.{Wrote};
@@ -17,7 +16,6 @@ use units::Number;
 use units::Position;
 use units::Speed;
 use wire::put_byte;
-use wire::put_signed;
 use wire::put_text;
 use words::Next;
 
@@ -102,16 +100,8 @@ pub fn put_setting(buf: &mut [u8], at: usize, t: &[u8], s: Setting) -> usize
     put_text(buf, next, name)
 }
 
-// A text, and a number behind it.
-pub fn put_numbered(buf: &mut [u8], at: usize, t: &[u8], n: Number) -> usize
-    ensures { λ r. ⌜ Wrote (now (buf .entry)) at (now (t .entry) ++ decimal (n .0)) (now (buf .exit)) r ⌝ }
-{
-    let next = put_text(buf, at, t);
-    put_signed(buf, next, n)
-}
-
 // Each word of a message behind a space.
-pub fn put_message(buf: &mut [u8], at: usize, message: &[u8]) -> usize
+fn put_message(buf: &mut [u8], at: usize, message: &[u8]) -> usize
     ensures { λ r. ⌜ Wrote (now (buf .entry)) at (trail (cut (now (message .entry)))) (now (buf .exit)) r ⌝ }
 {
     let mut next = at;

@@ -7,8 +7,8 @@ ghost use Rattle.wire.specs.Wrote.{Wrote};
 ghost use Rattle.rows.specs.Phrases.{plainWords};
 ghost use Rattle.rows.specs.Rows.{targetWords};
 use crate::Plain;
-use crate::put_numbered;
 use command::Target;
+use wire::put_numbered;
 use wire::put_text;
 
 pub fn put_plain(buf: &mut [u8], at: usize, p: Plain) -> usize

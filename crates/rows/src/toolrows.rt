@@ -6,7 +6,7 @@ ghost use Rattle.wire.specs.Wrote.{Wrote};
 ghost use Rattle.rows.specs.Phrases.{toolWords};
 use crate::Tool;
 use crate::put_message;
-use crate::put_numbered;
+use wire::put_numbered;
 use wire::put_text;
 
 // The words behind `tools`.

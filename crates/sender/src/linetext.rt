@@ -1,14 +1,13 @@
 // Writes a command's line into a lent buffer, from its first place on.
 // The rules are in writer/specs/Writing.antt.
 ghost use mathlib.Core.List.{_++_};
-ghost use lib.ListN.{take, drop};
 ghost use Rattle.laws.specs.Text.{text, spaced};
 ghost use Rattle.wire.specs.Wrote.{Wrote};
-ghost use Rattle.writer.specs.Writing.{lineWords, lineEnd, lineText};
+ghost use Rattle.writer.specs.Writing.{lineWords, lineText};
 use command::Command;
+use reply::put_sum;
 use wire::put_byte;
 use wire::put_number;
-use wire::put_pair;
 use wire::put_two;
 use wording::put_command;
 
@@ -23,20 +22,6 @@ fn put_content(buf: &mut [u8], address: u64, axis: u64, c: Command, message: &[u
     put_command(buf, e, c, message)
 }
 
-// The checksum of what stands behind the first byte, if it is wanted, and LF.
-fn put_end(buf: &mut [u8], at: usize, sum: bool) -> usize
-    ensures { λ r. ⌜ Wrote (now (buf .entry)) at (lineEnd sum (drop 1 (take at (now (buf .entry))))) (now (buf .exit)) r ⌝ }
-{
-    if sum {
-        let n = reply::summed(buf, at);
-        let colon = put_byte(buf, at, b':');
-        let pair = put_pair(buf, colon, n);
-        put_byte(buf, pair, b'\n')
-    } else {
-        put_byte(buf, at, b'\n')
-    }
-}
-
 // The whole line, from the first place on.
 pub fn put_line(
     buf: &mut [u8],
@@ -49,5 +34,6 @@ pub fn put_line(
     ensures { λ r. ⌜ Wrote (now (buf .entry)) 0 (lineText address axis c (now (message .entry)) sum) (now (buf .exit)) r ⌝ }
 {
     let at = put_content(buf, address, axis, c, message);
-    put_end(buf, at, sum)
+    let end = put_sum(buf, at, sum);
+    put_byte(buf, end, b'\n')
 }

@@ -3,7 +3,7 @@
 ghost use mathlib.Core.Path.{_≡_};
 ghost use Rattle.laws.specs.Lists.{all};
 ghost use Rattle.command.specs.Settings.{axisSettings};
-ghost use Rattle.settings.specs.Record.{freshSettings};
+ghost use Rattle.settings.specs.Record.{freshCurrent, freshSettings};
 ghost use Rattle.settings.specs.Settings.{range as rangeOf, deviceRange, value as valueOf, inRange, put as putOf, allows as allowsOf};
 use command::AxisSetting;
 use command::DeviceSetting;
@@ -50,6 +50,18 @@ pub fn device_range(s: DeviceSetting) -> Range
     }
 }
 
+impl Current {
+    fn fresh() -> Current
+        ensures { λ r. ⌜ r ≡ freshCurrent ⌝ }
+    {
+        Current {
+            max: Number(140),
+            run: Number(100),
+            hold: Number(60),
+        }
+    }
+}
+
 impl Settings {
     pub fn fresh() -> Settings
         ensures { λ r. ⌜ r ≡ freshSettings ⌝ }
@@ -60,11 +72,7 @@ impl Settings {
             min: zero,
             max: Position(305381),
         };
-        let current = Current {
-            max: Number(140),
-            run: Number(100),
-            hold: Number(60),
-        };
+        let current = Current::fresh();
         Settings {
             pos: zero,
             limit,

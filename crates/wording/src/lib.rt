@@ -12,9 +12,9 @@ use rows::Plain;
 use rows::Tool;
 use rows::moverows::put_plain;
 use rows::moverows::put_target;
-use rows::put_numbered;
 use rows::put_setting;
 use rows::toolrows::put_tool;
+use wire::put_numbered;
 use wire::put_text;
 
 fn phrase_of(c: Command) -> Phrase

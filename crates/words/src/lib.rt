@@ -12,7 +12,7 @@ pub enum Next {
 }
 
 // The first place from at on that has no space.
-pub fn skip_spaces(s: &[u8], at: usize) -> usize
+fn skip_spaces(s: &[u8], at: usize) -> usize
     ensures { λ r. ⌜ r ≡ startOf (now (s .entry)) at ⌝ }
 {
     let mut i = at;
@@ -26,7 +26,7 @@ pub fn skip_spaces(s: &[u8], at: usize) -> usize
 }
 
 // The first place from at on that has a space, or the end.
-pub fn word_end(s: &[u8], at: usize) -> usize
+fn word_end(s: &[u8], at: usize) -> usize
     ensures { λ r. ⌜ r ≡ endOf (now (s .entry)) at ⌝ }
 {
     let mut i = at;

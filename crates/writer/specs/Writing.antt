@@ -8,8 +8,8 @@ use lib.ListN.{length, drop}
 use Rattle.laws.specs.Text.{text, spaced}
 use Rattle.laws.specs.Lists.{all}
 use Rattle.laws.specs.Refusals.{_when_, firstOf}
-use Rattle.number.specs.Checksum.{checksum}
-use Rattle.number.specs.Decimal.{digits, twoDigits, hexPair}
+use Rattle.number.specs.Checksum.{sumText}
+use Rattle.number.specs.Decimal.{digits, twoDigits}
 use Rattle.words.specs.Cutting.{cut}
 use Rattle.command.specs.Settings.{readOnly}
 use Rattle.phrase.specs.Types.{Command, Nothing, Home, Stop, Estop, MoveTo, MoveVel, Get, Set, Storepos, StoreposAt, StoreposCurrent, Warnings, WarningsClear, ParkingState, Park, Unpark, Echo}
@@ -23,7 +23,7 @@ lineWords address axis c message = twoDigits address ∷ digits axis ∷ command
 
 -- the checksum of the content s, if asked, and LF
 unfoldable pub lineEnd : Bool → List ℕ → List ℕ
-lineEnd sum s = cond sum (text ":" ++ hexPair (checksum s)) [] ++ text "\n"
+lineEnd sum s = sumText sum s ++ text "\n"
 
 unfoldable pub lineText : ℕ → ℕ → Command → List ℕ → Bool → List ℕ
 lineText address axis c message sum =

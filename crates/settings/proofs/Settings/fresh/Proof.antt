@@ -1,13 +1,16 @@
 -- The values that document 01 has.
 -- Assumes nothing.
-use mathlib.Core.Path.{refl}
 use Rattle.settings.specs.Record.{freshSettings}
+use borrow.Author.Needs.{needs}
 use Rattle.settings.proofs.Settings.fresh.Statement.{statement}
 use Rattle.settings.proofs.Settings.fresh.Tie as tie
 
+fresh-requires : tie.Need-fresh-requires
+fresh-requires c κs = search needs
+
 returns : tie.Need-returns
 unfolding freshSettings
-returns c = refl
+returns c = simp (c .fresh .ensures)
 
 pub fresh-spec : {M : Type 1} → statement M
-fresh-spec = tie.close (tie.spec returns)
+fresh-spec = tie.close (tie.spec fresh-requires returns)

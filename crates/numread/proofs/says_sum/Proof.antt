@@ -1,9 +1,8 @@
--- `hearing::says_sum` meets its contract: a pair that is none says no sum.
+-- A pair that was read is compared with the checksum.
 -- Assumes nothing.
-use Rattle.host.proofs.Parts.{sum-said}
 use borrow.Author.Needs.{needs}
-use Rattle.hearing.proofs.says_sum.Statement.{statement}
-use Rattle.hearing.proofs.says_sum.Tie as tie
+use Rattle.numread.proofs.says_sum.Statement.{statement}
+use Rattle.numread.proofs.says_sum.Tie as tie
 
 enum-known-p : tie.Need-enum-known-p
 enum-known-p c = search needs
@@ -15,7 +14,7 @@ enum-told : tie.Need-enum-told
 enum-told c = search needs
 
 returns : tie.Need-returns
-returns c = sum-said _ _ _ _ (c .before .before .p .given .1) (c .checksum .ensures)
+returns c = simp (c .checksum .ensures, c .before .before .p .given .1)
 
 returns-2 : tie.Need-returns-2
 returns-2 c = search needs
