@@ -64,16 +64,6 @@ echo-same d k vs ws Echo e = ap echoed e
 pub behind-two : (l : List (List ℕ)) (skip : ℕ) → drop (skip + 2) l ≡ drop 2 (drop skip l)
 behind-two l skip = sym (drop-drop 2 skip l)
 
--- a command that meets no refusal, and one that does
-module _ (d : Device) (k : ℕ) (es : List (List ℕ)) (c : Command) (b : List ℕ) where
-  pub obeyed-yes : refusal d k c ≡ 0 → accepted d k es c b ≡ obeyed d k es c b
-  unfolding obeyed
-  obeyed-yes h = rw (eq-eqb (refusal d k c) 0 h)
-
-  pub obeyed-no : {n : ℕ} → n ≡ refusal d k c → (n ≡ 0 → ⊥) → rejected n d k b ≡ obeyed d k es c b
-  unfolding obeyed
-  obeyed-no {n} e h = rw (← e, ne-eqb n 0 h)
-
 -- a good record and a buffer with room
 module _ (d : Device) (ws : List (List ℕ)) (b : List ℕ) (room : 96 ≤ length b) (g : good d ≡ true) where
   pub respond-silent : (n : ℕ) → silent n d b ≡ respond d ws (Silent n) b
@@ -93,9 +83,6 @@ module _ (d : Device) (ws : List (List ℕ)) (b : List ℕ) (room : 96 ≤ lengt
     pub respond-other : concerns d a ≡ false → silent 5 d b ≡ respond d ws (Addressed a k skip w) b
     unfolding respond silence firstOf
     respond-other h = rw (le-ltb (length b) 96 room, g, h)
-
-pub heard-as : (d : Device) (ws : List (List ℕ)) (b : List ℕ) {r x : LineRead} → r ≡ readWords ws → r ≡ x → respond d ws x b ≡ respond d ws (readWords ws) b
-heard-as d ws b q e = ap (λ (y : LineRead). respond d ws y b) (sym e ∙ q)
 
 -- how many words stand before a command's own
 pub skip-few : (ws : List (List ℕ)) {r : LineRead} (a k skip : ℕ) (w : WordsRead) → r ≡ readWords ws → r ≡ Addressed a k skip w → skip ≤ 2

@@ -38,6 +38,11 @@ silent n d b = record { answer = record { number = n; length = 0; next = d }; bu
 unfoldable pub written : ℕ → Device → List ℕ → List ℕ → Stepped
 written n d t b = record { answer = record { number = n; length = length t; next = d }; buffer = t ++ drop (length t) b }
 
+-- a reply t at the front of a buffer b: what a writer answers, and what it leaves
+pub record Replied (t b : List ℕ) (r : ℕ) (c : List ℕ) : Type 0 where
+  pub place : r ≡ length t
+  pub left : c ≡ t ++ drop (length t) b
+
 -- "`:CC` ... if comm.checksum is 1"
 unfoldable pub wantsSum : Device → Bool
 wantsSum d = eqb (place (d .comm .checksum .0)) 1

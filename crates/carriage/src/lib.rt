@@ -2,7 +2,7 @@
 // specs/Step.antt says what a line makes of a record, for every record, line and buffer.
 ghost use mathlib.Core.Path.{_≡_};
 ghost use mathlib.Core.Bool.{true};
-ghost use Prim.Native.Nat.{_+_, _≤_};
+ghost use Prim.Native.Nat.{_+_, _≤_, _<_};
 ghost use lib.ListN.{length, drop};
 ghost use Rattle.words.specs.Cutting.{cut};
 ghost use Rattle.phrase.specs.Reading.{echoOf};
@@ -10,13 +10,18 @@ ghost use Rattle.line.specs.Reading.{readWords};
 ghost use Rattle.state.specs.Good.{good as goodOf};
 ghost use Rattle.device.specs.Refusals.{refusal as refusalOf};
 ghost use Rattle.carriage.specs.Report.{report as reportOf};
-ghost use Rattle.carriage.specs.Step.{Gives, rejected, accepted, obeyed, wantsSum, concerns as concernsOf, addressed as addressedTo, respond, step as stepOf};
+ghost use Rattle.reply.specs.Reply.{reply as replyText};
+ghost use Rattle.data.specs.Data.{refusalName};
+ghost use Rattle.shown.specs.Data.{dataOf};
+ghost use Rattle.carriage.specs.Step.{Replied, Gives, concerns as concernsOf, respond, step as stepOf};
+ghost use Rattle.carriage.specs.Rulings.{headingOf, ruleWords, rule as ruleOf};
 use command::Command;
 use device::effects::next;
 use device::refusals::refusal;
 use line::Frame;
 use line::LineRead;
 use phrase::WordsRead;
+use reply::Head;
 use reply::put_end;
 use reply::put_head;
 use state::Device;
@@ -30,64 +35,64 @@ pub struct Answer {
     pub next: Device,
 }
 
-// Nothing is written, and the record stays.
-fn silent(d: Device, number: u8) -> Answer
-    ensures { λ r. ⌜ r ≡ record { number = number; length = 0; next = d } ⌝ }
+// What a line comes to, before anything is written: a silence; a rejection, with its axis; or a command that meets no refusal,
+// with its axis and how many words stand before its own.
+pub enum Ruling {
+    Silent(u8),
+    Rejected(u64, u8),
+    Accepted(u64, usize, Command),
+}
+
+// What a reply has of its record besides the data: the head, and whether a checksum is wanted.
+pub struct Heading {
+    pub head: Head,
+    pub sum: bool,
+}
+
+fn answer_of(next: Device, number: u8, length: usize) -> Answer
+    ensures { λ r. ⌜ r ≡ record { number = number; length = length; next = next } ⌝ }
 {
     Answer {
         number,
-        length: 0,
-        next: d,
+        length,
+        next,
     }
 }
 
-fn wants_sum(d: Device) -> bool
-    ensures { λ r. ⌜ r ≡ wantsSum d ⌝ }
+fn heading_of(d: Device, k: u64, ok: bool) -> Heading
+    ensures { λ r. ⌜ r ≡ headingOf d k ok ⌝ }
 {
-    d.comm.checksum.place() == 1
+    Heading {
+        head: view::head(d, k, ok),
+        sum: d.comm.checksum.place() == 1,
+    }
 }
 
-// The rejecting reply; the record stays.
-fn reject(d: Device, k: u64, number: u8, reply: &mut [u8]) -> Answer
-    requires { ⌜ (96 ≤ length (now reply)) × (goodOf d ≡ true) ⌝ }
-    ensures { λ r. ⌜ Gives (rejected number d k (now (reply .entry))) r (now (reply .exit)) ⌝ }
+fn put_rejection(h: Heading, number: u8, reply: &mut [u8]) -> usize
+    requires { ⌜ (96 ≤ length (now reply)) × (h .head .axis < 10) ⌝ }
+    ensures { λ r. ⌜ Replied (replyText (h .head) (h .sum) (refusalName number)) (now (reply .entry)) r (now (reply .exit)) ⌝ }
 {
-    let data = put_head(reply, 0, view::head(d, k, false));
+    let data = put_head(reply, 0, h.head);
     let end = data::put_refusal(reply, data, number);
-    let length = put_end(reply, end, wants_sum(d));
-    Answer {
-        number,
-        length,
-        next: d,
-    }
+    put_end(reply, end, h.sum)
 }
 
-// The accepting reply, of the record after the command. The command's own words stand behind `skip` others.
-fn accept(d: Device, k: u64, c: Command, s: &[u8], skip: usize, reply: &mut [u8]) -> Answer
-    requires { ⌜ (96 ≤ length (now reply)) × (goodOf d ≡ true) × (refusalOf d k c ≡ 0) × (length (now s) ≤ 78) × (skip ≤ 2) ⌝ }
-    ensures { λ r. ⌜ Gives (accepted d k (echoOf c (drop skip (cut (now (s .entry))))) c (now (reply .entry))) r (now (reply .exit)) ⌝ }
+// The reply to a command that d obeys; h is of the record after it. The command's own words stand behind `skip` others.
+fn put_acceptance(
+    h: Heading,
+    d: Device,
+    k: u64,
+    c: Command,
+    s: &[u8],
+    skip: usize,
+    reply: &mut [u8],
+) -> usize
+    requires { ⌜ (96 ≤ length (now reply)) × (h .head .axis < 10) × (goodOf d ≡ true) × (refusalOf d k c ≡ 0) × (length (now s) ≤ 78) × (skip ≤ 2) ⌝ }
+    ensures { λ r. ⌜ Replied (replyText (h .head) (h .sum) (dataOf d k (echoOf c (drop skip (cut (now (s .entry))))) c)) (now (reply .entry)) r (now (reply .exit)) ⌝ }
 {
-    let after = next(d, k, c);
-    let data = put_head(reply, 0, view::head(after, k, true));
+    let data = put_head(reply, 0, h.head);
     let end = shown::put_data(reply, data, d, k, c, s, words::past_words(s, skip + 2));
-    let length = put_end(reply, end, wants_sum(after));
-    Answer {
-        number: 0,
-        length,
-        next: after,
-    }
-}
-
-fn obey(d: Device, k: u64, c: Command, s: &[u8], skip: usize, reply: &mut [u8]) -> Answer
-    requires { ⌜ (96 ≤ length (now reply)) × (goodOf d ≡ true) × (length (now s) ≤ 78) × (skip ≤ 2) ⌝ }
-    ensures { λ r. ⌜ Gives (obeyed d k (echoOf c (drop skip (cut (now (s .entry))))) c (now (reply .entry))) r (now (reply .exit)) ⌝ }
-{
-    let number = refusal(d, k, c);
-    if number == 0 {
-        accept(d, k, c, s, skip, reply)
-    } else {
-        reject(d, k, number, reply)
-    }
+    put_end(reply, end, h.sum)
 }
 
 // Is it sent to all, or to this device?
@@ -100,28 +105,58 @@ fn concerns(d: Device, address: u64) -> bool
     all | mine
 }
 
-fn addressed(d: Device, k: u64, skip: usize, w: WordsRead, s: &[u8], reply: &mut [u8]) -> Answer
-    requires { ⌜ (96 ≤ length (now reply)) × (goodOf d ≡ true) × (length (now s) ≤ 78) × (skip ≤ 2) ⌝ }
-    ensures { λ r. ⌜ Gives (addressedTo d (cut (now (s .entry))) k skip w (now (reply .entry))) r (now (reply .exit)) ⌝ }
+// The reader's refusal, or the first that its command meets.
+fn rule_words(d: Device, k: u64, skip: usize, w: WordsRead) -> Ruling
+    ensures { λ r. ⌜ r ≡ ruleWords d k skip w ⌝ }
 {
     match w {
-        WordsRead::Refused(n) => reject(d, k, n, reply),
-        WordsRead::Command(c) => obey(d, k, c, s, skip, reply),
+        WordsRead::Refused(n) => Ruling::Rejected(k, n),
+        WordsRead::Command(c) => {
+            let n = refusal(d, k, c);
+            if n == 0 {
+                Ruling::Accepted(k, skip, c)
+            } else {
+                Ruling::Rejected(k, n)
+            }
+        }
     }
 }
 
-// The content of a line.
-fn heard(d: Device, s: &[u8], reply: &mut [u8]) -> Answer
-    requires { ⌜ (96 ≤ length (now reply)) × (goodOf d ≡ true) × (length (now s) ≤ 78) ⌝ }
-    ensures { λ r. ⌜ Gives (respond d (cut (now (s .entry))) (readWords (cut (now (s .entry)))) (now (reply .entry))) r (now (reply .exit)) ⌝ }
+// What was read comes to this for the record.
+fn rule(d: Device, r: LineRead) -> Ruling
+    ensures { λ x. ⌜ x ≡ ruleOf d r ⌝ }
 {
-    match lineread::read_words(s) {
-        LineRead::Silent(n) => silent(d, n),
+    match r {
+        LineRead::Silent(n) => Ruling::Silent(n),
         LineRead::Addressed(address, axis, skip, w) => {
             if concerns(d, address) {
-                addressed(d, axis, skip, w, s, reply)
+                rule_words(d, axis, skip, w)
             } else {
-                silent(d, 5)
+                Ruling::Silent(5)
+            }
+        }
+    }
+}
+
+// The answer to a line's content, once it is ruled. A command that only shows has no next record to be made.
+fn carry_out(d: Device, x: Ruling, s: &[u8], reply: &mut [u8]) -> Answer
+    requires { ⌜ (96 ≤ length (now reply)) × (goodOf d ≡ true) × (length (now s) ≤ 78) × (x ≡ ruleOf d (readWords (cut (now s)))) ⌝ }
+    ensures { λ r. ⌜ Gives (respond d (cut (now (s .entry))) (readWords (cut (now (s .entry)))) (now (reply .entry))) r (now (reply .exit)) ⌝ }
+{
+    match x {
+        Ruling::Silent(n) => answer_of(d, n, 0),
+        Ruling::Rejected(k, n) => {
+            let length = put_rejection(heading_of(d, k, false), n, reply);
+            answer_of(d, n, length)
+        }
+        Ruling::Accepted(k, skip, c) => {
+            if orders::only_shows(c) {
+                let length = put_acceptance(heading_of(d, k, true), d, k, c, s, skip, reply);
+                answer_of(d, 0, length)
+            } else {
+                let after = next(d, k, c);
+                let length = put_acceptance(heading_of(after, k, true), d, k, c, s, skip, reply);
+                answer_of(after, 0, length)
             }
         }
     }
@@ -132,15 +167,18 @@ pub fn step(d: Device, line: &[u8], reply: &mut [u8]) -> Answer
     ensures { λ r. ⌜ Gives (stepOf d (now (line .entry)) (now (reply .entry))) r (now (reply .exit)) ⌝ }
 {
     if reply.len() < 96 {
-        return silent(d, 20);
+        return answer_of(d, 20, 0);
     }
     let good = d.good();
     if !good {
-        return silent(d, 21);
+        return answer_of(d, 21, 0);
     }
     match frame::read_frame(line) {
-        Frame::Refused(n) => silent(d, n),
-        Frame::Content(n) => heard(d, &line[1..n + 1], reply),
+        Frame::Refused(n) => answer_of(d, n, 0),
+        Frame::Content(n) => {
+            let s = &line[1..n + 1];
+            carry_out(d, rule(d, lineread::read_words(s)), s, reply)
+        }
     }
 }
 

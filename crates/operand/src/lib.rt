@@ -20,9 +20,10 @@ pub fn ended_at(s: &[u8], at: usize, c: Command) -> WordsRead
 {
     let w = words::first_word(s, at);
     if w.len() == 0 {
-        return WordsRead::Command(c);
+        WordsRead::Command(c)
+    } else {
+        WordsRead::Refused(11)
     }
-    WordsRead::Refused(11)
 }
 
 // The row k, where one word is left and is its number.

@@ -1,0 +1,28 @@
+-- `carriage::rule_words` meets its contract: the reader's refusal, or the first that its command meets.
+-- Assumes nothing.
+use Rattle.carriage.proofs.Rulings.{ruled-accepted, ruled-rejected}
+use borrow.Author.Needs.{needs}
+use Rattle.carriage.proofs.rule_words.Statement.{statement}
+use Rattle.carriage.proofs.rule_words.Tie as tie
+
+enum-known-w : tie.Need-enum-known-w
+enum-known-w c = search needs
+
+enum-known-w-2 : tie.Need-enum-known-w-2
+enum-known-w-2 c = search needs
+
+refusal-requires : tie.Need-refusal-requires
+refusal-requires c κs = search needs
+
+returns : tie.Need-returns
+returns c = simp (c .before .w .given .1)
+
+returns-2 : tie.Need-returns-2
+returns-2 c = ruled-accepted _ _ _ _ (c .before .before .before .w2 .given .1) (c .before .refusal .ensures) (c .if1 .taken)
+
+returns-3 : tie.Need-returns-3
+returns-3 c = ruled-rejected _ _ _ _ (c .before .before .before .w2 .given .1) (c .before .refusal .ensures) (c .if1 .left)
+
+pub rule-words-spec : {M : Type 1} → statement M
+rule-words-spec =
+    tie.close (tie.spec enum-known-w enum-known-w-2 refusal-requires returns returns-2 returns-3)
