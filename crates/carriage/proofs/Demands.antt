@@ -25,7 +25,7 @@ use Rattle.device.specs.Effects.{next, obey}
 use Rattle.device.proofs.GoodStays.{good-stays}
 use Rattle.device.proofs.RefusalKeeps.{accepted-next}
 use Rattle.data.specs.Data.{refusalName}
-use Rattle.shown.specs.Data.{dataOf}
+use Rattle.view.specs.Data.{dataOf}
 use Rattle.carriage.specs.declared.Answer.{Answer}
 use Rattle.carriage.specs.Step.{Stepped, Gives, silent, written, replyOf, rejected, accepted, obeyed, unread, notMine, answered, silence, respond, step}
 

@@ -53,9 +53,9 @@ use Rattle.view.specs.declared.Value.{Value}
 use Rattle.view.specs.declared.Value.the-variants as Value
 use Rattle.words.specs.Cutting.{cut}
 use Rattle.phrase.specs.Reading.{isEcho, echoOf}
-use Rattle.shown.specs.Data.{parkedData, shownBy, textOf, dataOf}
-use Rattle.shown.specs.declared.Shown.{Shown}
-use Rattle.shown.specs.declared.Shown.the-variants as Shown
+use Rattle.view.specs.Data.{parkedData, shownBy, textOf, dataOf}
+use Rattle.view.specs.declared.Shown.{Shown}
+use Rattle.view.specs.declared.Shown.the-variants as Shown
 
 -- what lies in a range of 32 bits takes 11 bytes at most
 short-in : (l h z : ℤ) → SFits w32 l → SFits w32 h → within (l to h) z ≡ true → length (decimal z) ≤ 11

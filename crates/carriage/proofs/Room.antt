@@ -26,7 +26,7 @@ use Rattle.data.specs.Data.{refusalName}
 use Rattle.data.proofs.Lengths.{refusal-length}
 use Rattle.reply.proofs.Room.{reply-length}
 use Rattle.view.specs.View.{headOf}
-use Rattle.shown.specs.Data.{dataOf}
+use Rattle.view.specs.Data.{dataOf}
 use Rattle.carriage.specs.Step.{silent, written, wantsSum, replyOf, rejected, accepted, unread, silence, step}
 use Rattle.carriage.proofs.Fits.{data-fits}
 use Rattle.carriage.proofs.Replies.{good-count, shown-digit, next-count}

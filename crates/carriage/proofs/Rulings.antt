@@ -20,7 +20,7 @@ use Rattle.device.specs.Refusals.{refusal}
 use Rattle.device.specs.Effects.{next}
 use Rattle.data.specs.Data.{refusalName}
 use Rattle.reply.specs.Reply.{reply}
-use Rattle.shown.specs.Data.{dataOf}
+use Rattle.view.specs.Data.{dataOf}
 use Rattle.carriage.specs.declared.Answer.{Answer}
 use Rattle.carriage.specs.declared.Heading.{Heading}
 use Rattle.carriage.specs.declared.Ruling.{Ruling}

@@ -28,7 +28,7 @@ use Rattle.state.specs.declared.Device.{Device}
 use Rattle.state.specs.Good.{good}
 use Rattle.device.specs.Refusals.{refusal}
 use Rattle.data.specs.Data.{echoed}
-use Rattle.shown.specs.Data.{dataOf}
+use Rattle.view.specs.Data.{dataOf}
 use Rattle.carriage.specs.declared.Answer.{Answer}
 use Rattle.carriage.specs.Step.{Stepped, Gives, silent, rejected, accepted, obeyed, concerns, addressed, silence, respond, step}
 

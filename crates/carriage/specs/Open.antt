@@ -22,7 +22,7 @@ use Rattle.device.specs.Refusals as DeviceRefusals
 use Rattle.data.specs.Data as Data
 use Rattle.reply.specs.Reply as Reply
 use Rattle.view.specs.View as View
-use Rattle.shown.specs.Data as ShownData
+use Rattle.view.specs.Data as ShownData
 use Rattle.line.specs.Open.{reading}
 use Rattle.carriage.specs.Step as Step
 

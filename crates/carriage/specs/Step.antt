@@ -23,7 +23,7 @@ use Rattle.data.specs.Data.{refusalName}
 use Rattle.reply.specs.Reply.{reply}
 use Rattle.view.specs.View.{headOf}
 use Rattle.carriage.specs.declared.Answer.{Answer}
-use Rattle.shown.specs.Data.{dataOf}
+use Rattle.view.specs.Data.{dataOf}
 
 -- the answer, and the buffer as it is left
 pub record Stepped : Type 0 where

@@ -12,7 +12,7 @@ ghost use Rattle.device.specs.Refusals.{refusal as refusalOf};
 ghost use Rattle.carriage.specs.Report.{report as reportOf};
 ghost use Rattle.reply.specs.Reply.{reply as replyText};
 ghost use Rattle.data.specs.Data.{refusalName};
-ghost use Rattle.shown.specs.Data.{dataOf};
+ghost use Rattle.view.specs.Data.{dataOf};
 ghost use Rattle.carriage.specs.Step.{Replied, Gives, concerns as concernsOf, respond, step as stepOf};
 ghost use Rattle.carriage.specs.Rulings.{headingOf, ruleWords, rule as ruleOf};
 use command::Command;
@@ -91,7 +91,7 @@ fn put_acceptance(
     ensures { λ r. ⌜ Replied (replyText (h .head) (h .sum) (dataOf d k (echoOf c (drop skip (cut (now (s .entry))))) c)) (now (reply .entry)) r (now (reply .exit)) ⌝ }
 {
     let data = put_head(reply, 0, h.head);
-    let end = shown::put_data(reply, data, d, k, c, s, words::past_words(s, skip + 2));
+    let end = view::commands::put_data(reply, data, d, k, c, s, words::past_words(s, skip + 2));
     put_end(reply, end, h.sum)
 }
 

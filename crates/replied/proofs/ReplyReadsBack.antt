@@ -17,7 +17,7 @@ use Rattle.device.specs.Effects.{next}
 use Rattle.data.specs.Data.{refusalName}
 use Rattle.data.proofs.Lengths.{refusal-length}
 use Rattle.view.specs.View.{headOf}
-use Rattle.shown.specs.Data.{dataOf}
+use Rattle.view.specs.Data.{dataOf}
 use Rattle.carriage.specs.Step.{Stepped, silent, written, wantsSum, replyOf, rejected, accepted, step}
 use Rattle.carriage.proofs.Fits.{data-fits}
 use Rattle.carriage.proofs.Replies.{good-count, shown-digit}

@@ -31,9 +31,9 @@ use Rattle.host.specs.Spelling.{Data}
 use Rattle.view.specs.View.{valueIn, valuesOf, warningsOf}
 use Rattle.view.specs.declared.Value.{Value}
 use Rattle.view.specs.declared.Value.the-variants as Value
-use Rattle.shown.specs.Data.{parkedData, shownBy, textOf, dataOf}
-use Rattle.shown.specs.declared.Shown.{Shown}
-use Rattle.shown.specs.declared.Shown.the-variants as Shown
+use Rattle.view.specs.Data.{parkedData, shownBy, textOf, dataOf}
+use Rattle.view.specs.declared.Shown.{Shown}
+use Rattle.view.specs.declared.Shown.the-variants as Shown
 use Rattle.carriage.proofs.Replies.{good-count}
 use Rattle.readback.proofs.Words.{word-of}
 use Rattle.replied.proofs.Texts.{one-data, decimal-word, values-data, list-data, echoed-data}

@@ -1,5 +1,5 @@
-// What a reply shows of a record: its head, and the values of the axes that a number means.
-// Each is said in specs/View.antt, in document 01's words.
+// What a reply shows of a record: its head, and the values of the axes that a number means; in commands.rt the data of each command.
+// specs/View.antt and specs/Data.antt say it in document 01's words.
 ghost use mathlib.Core.Path.{_≡_};
 ghost use mathlib.Core.List.{map};
 ghost use Prim.Native.Nat.{_+_, _≤_};
@@ -9,6 +9,7 @@ ghost use Rattle.data.specs.Data.{values};
 ghost use Rattle.view.specs.View.{shownAxis, headOf, valueIn, valuesOf};
 use axis::Axis;
 use command::AxisSetting;
+use command::Setting;
 use reply::Head;
 use state::Device;
 use units::Number;
@@ -20,6 +21,17 @@ pub enum Value {
     Of(AxisSetting),
     Stored(Number),
     Pos,
+}
+
+// The kinds of data that a command's reply has.
+pub enum Shown {
+    Nought,
+    Value(Setting),
+    StoredAt(Number),
+    Position,
+    Active,
+    Parked,
+    Words,
 }
 
 fn shown_axis(d: Device, k: u64) -> u64
@@ -81,3 +93,5 @@ pub fn put_values(buf: &mut [u8], at: usize, d: Device, k: u64, v: Value) -> usi
     let p = d.part(k);
     put_list(buf, at, axes, v, p.from, p.many)
 }
+
+pub mod commands;

@@ -4,25 +4,16 @@ ghost use mathlib.Core.Path.{_≡_};
 ghost use lib.ListN.{drop};
 ghost use Rattle.words.specs.Cutting.{cut};
 ghost use Rattle.wire.specs.Wrote.{Wrote};
-ghost use Rattle.shown.specs.Data.{settingData, parkedData, shownBy as shownOf, textOf, dataOf};
+ghost use Rattle.view.specs.Data.{settingData, parkedData, shownBy as shownOf, textOf, dataOf};
+use crate::Shown;
+use crate::Value;
+use crate::put_values;
 use command::Command;
 use command::Setting;
 use state::Device;
 use units::Number;
-use view::Value;
 use wire::put_signed;
 use wire::put_text;
-
-// The kinds of data.
-pub enum Shown {
-    Nought,
-    Value(Setting),
-    StoredAt(Number),
-    Position,
-    Active,
-    Parked,
-    Words,
-}
 
 // What a command's reply shows.
 fn shown_by(c: Command) -> Shown
@@ -53,7 +44,7 @@ fn setting_data(buf: &mut [u8], at: usize, d: Device, k: u64, s: Setting) -> usi
     ensures { λ r. ⌜ Wrote (now (buf .entry)) at (settingData d k s) (now (buf .exit)) r ⌝ }
 {
     match s {
-        Setting::OfAxis(x) => view::put_values(buf, at, d, k, Value::Of(x)),
+        Setting::OfAxis(x) => put_values(buf, at, d, k, Value::Of(x)),
         Setting::OfDevice(x) => put_signed(buf, at, d.value(x)),
     }
 }
@@ -74,8 +65,8 @@ fn put_shown(buf: &mut [u8], at: usize, d: Device, k: u64, x: Shown, s: &[u8], f
     match x {
         Shown::Nought => put_text(buf, at, b"0"),
         Shown::Value(y) => setting_data(buf, at, d, k, y),
-        Shown::StoredAt(n) => view::put_values(buf, at, d, k, Value::Stored(n)),
-        Shown::Position => view::put_values(buf, at, d, k, Value::Pos),
+        Shown::StoredAt(n) => put_values(buf, at, d, k, Value::Stored(n)),
+        Shown::Position => put_values(buf, at, d, k, Value::Pos),
         Shown::Active => data::put_warnings(buf, at, d.active(k)),
         Shown::Parked => parked_data(buf, at, d),
         Shown::Words => data::put_echo(buf, at, s, from),

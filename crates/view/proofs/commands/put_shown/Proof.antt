@@ -1,10 +1,10 @@
--- `shown::put_shown` meets its contract: each kind of data by its writer.
+-- `view::commands::put_shown` meets its contract: each kind of data by its writer.
 -- Assumes nothing.
 use Rattle.laws.specs.Text.{text}
 use Rattle.view.specs.View.{warningsOf}
 use borrow.Author.Needs.{needs}
-use Rattle.shown.proofs.put_shown.Statement.{statement}
-use Rattle.shown.proofs.put_shown.Tie as tie
+use Rattle.view.proofs.commands.put_shown.Statement.{statement}
+use Rattle.view.proofs.commands.put_shown.Tie as tie
 
 enum-told : tie.Need-enum-told
 enum-told c = search needs

@@ -12,10 +12,10 @@ use Rattle.command.specs.declared.Command.the-variants.{Nothing, Home, Stop, Es
 use Rattle.state.specs.declared.Device.{Device}
 use Rattle.state.specs.Record.{value}
 use Rattle.data.specs.Data.{values, warningList, echoed}
 use Rattle.view.specs.View.{valuesOf, warningsOf}
 use Rattle.view.specs.declared.Value.the-variants.{Of, Stored, Pos}
-use Rattle.shown.specs.declared.Shown.{Shown}
-use Rattle.shown.specs.declared.Shown.the-variants.{Nought, Value, StoredAt, Position, Active, Parked, Words}
+use Rattle.view.specs.declared.Shown.{Shown}
+use Rattle.view.specs.declared.Shown.the-variants.{Nought, Value, StoredAt, Position, Active, Parked, Words}
 
 -- "setting's" scope: the values of the axes, or the value of the device
 abbrev pub settingData : Device → ℕ → Setting → List ℕ

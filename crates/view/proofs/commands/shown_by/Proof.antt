@@ -1,8 +1,8 @@
--- `shown::shown_by` meets its contract: the table, row by row.
+-- `view::commands::shown_by` meets its contract: the table, row by row.
 -- Assumes nothing.
 use borrow.Author.Needs.{needs}
-use Rattle.shown.proofs.shown_by.Statement.{statement}
-use Rattle.shown.proofs.shown_by.Tie as tie
+use Rattle.view.proofs.commands.shown_by.Statement.{statement}
+use Rattle.view.proofs.commands.shown_by.Tie as tie
 
 enum-told : tie.Need-enum-told
 enum-told c = search needs

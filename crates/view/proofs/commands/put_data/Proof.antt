@@ -1,9 +1,9 @@
--- `shown::put_data` meets its contract: what the command's reply shows.
+-- `view::commands::put_data` meets its contract: what the command's reply shows.
 -- Assumes nothing.
-use Rattle.shown.specs.Data.{dataOf}
+use Rattle.view.specs.Data.{dataOf}
 use borrow.Author.Needs.{needs}
-use Rattle.shown.proofs.put_data.Statement.{statement}
-use Rattle.shown.proofs.put_data.Tie as tie
+use Rattle.view.proofs.commands.put_data.Statement.{statement}
+use Rattle.view.proofs.commands.put_data.Tie as tie
 
 shown-by-requires : tie.Need-shown-by-requires
 shown-by-requires c κs = search needs

@@ -1,10 +1,10 @@
--- `shown::parked_data` meets its contract: 1 where the device is parked, and 0 otherwise.
+-- `view::commands::parked_data` meets its contract: 1 where the device is parked, and 0 otherwise.
 -- Assumes nothing.
 use Rattle.laws.specs.Text.{text}
-use Rattle.shown.specs.Data.{parkedData}
+use Rattle.view.specs.Data.{parkedData}
 use borrow.Author.Needs.{needs}
-use Rattle.shown.proofs.parked_data.Statement.{statement}
-use Rattle.shown.proofs.parked_data.Tie as tie
+use Rattle.view.proofs.commands.parked_data.Statement.{statement}
+use Rattle.view.proofs.commands.parked_data.Tie as tie
 
 slice-aggregate-put-text : tie.Need-slice-aggregate-put-text
 slice-aggregate-put-text c = search needs

@@ -1,8 +1,8 @@
--- `shown::setting_data` meets its contract: the values of the axes, or the value of the device.
+-- `view::commands::setting_data` meets its contract: the values of the axes, or the value of the device.
 -- Assumes nothing.
 use borrow.Author.Needs.{needs}
-use Rattle.shown.proofs.setting_data.Statement.{statement}
-use Rattle.shown.proofs.setting_data.Tie as tie
+use Rattle.view.proofs.commands.setting_data.Statement.{statement}
+use Rattle.view.proofs.commands.setting_data.Tie as tie
 
 enum-known-s : tie.Need-enum-known-s
 enum-known-s c = search needs
