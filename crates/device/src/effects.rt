@@ -1,6 +1,7 @@
 // What each command does to the record, where it is accepted.
 // The axes that the command concerns are changed first, then the device itself.
 ghost use mathlib.Core.Path.{_≡_};
+ghost use Rattle.state.specs.Record.{withParked};
 ghost use Rattle.device.specs.Effects.{putSetting, deviceAfter, next as nextOf, obey as obeyOf};
 use crate::refusals::refusal;
 use command::Command;
@@ -17,6 +18,13 @@ fn put_setting(d: Device, s: Setting, n: Number) -> Device
         Setting::OfAxis(_) => d,
         Setting::OfDevice(x) => d.put(x, n),
     }
+}
+
+fn with_parked(mut d: Device, parked: bool) -> Device
+    ensures { λ r. ⌜ r ≡ withParked parked d ⌝ }
+{
+    d.parked = parked;
+    d
 }
 
 fn after(d: Device, c: Command) -> Device
@@ -37,8 +45,8 @@ fn after(d: Device, c: Command) -> Device
         Command::Warnings => d,
         Command::WarningsClear => d,
         Command::ParkingState => d,
-        Command::Park => d.with_parked(true),
-        Command::Unpark => d.with_parked(false),
+        Command::Park => with_parked(d, true),
+        Command::Unpark => with_parked(d, false),
         Command::Echo => d,
     }
 }
@@ -60,8 +68,11 @@ pub fn obey(d: Device, k: u64, c: Command) -> Outcome
 {
     let n = refusal(d, k, c);
     if n == 0 {
-        next(d, k, c).beside(0)
+        Outcome {
+            number: 0,
+            next: next(d, k, c),
+        }
     } else {
-        d.beside(n)
+        Outcome { number: n, next: d }
     }
 }

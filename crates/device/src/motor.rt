@@ -48,8 +48,11 @@ pub fn report(d: Device, axis: Number, r: Report) -> Outcome
     let k = axis.place() as u64;
     let n = report_refusal(d, k, r);
     if n == 0 {
-        d.change(k, Change::Hear(r)).beside(0)
+        Outcome {
+            number: 0,
+            next: d.change(k, Change::Hear(r)),
+        }
     } else {
-        d.beside(n)
+        Outcome { number: n, next: d }
     }
 }

@@ -25,7 +25,10 @@ fn heard(d: Device, r: ReportRead) -> Outcome
     ensures { λ o. ⌜ o ≡ heardOf d r ⌝ }
 {
     match r {
-        ReportRead::Misspelt => d.beside(22),
+        ReportRead::Misspelt => Outcome {
+            number: 22,
+            next: d,
+        },
         ReportRead::Report(axis, kind, last) => carriage::report(d, axis, kind, last),
     }
 }

@@ -53,6 +53,10 @@ axesOf d k = take (many d k) (drop (k - 1) (d .axes))
 unfoldable pub onAxes : (Axis → Axis) → ℕ → Device → Device
 onAxes g k d = withAxes (changeFrom g (k - 1) (many d k) (d .axes)) d
 
+-- "alert 0, checksum 0"
+abbrev pub freshComm : Number → Comm
+freshComm address = comm address (number (pos 0)) (number (pos 0))
+
 -- "not parked, alert 0, checksum 0, access 1"
 unfoldable pub fresh : Number → ℕ → Number → Device
-fresh address count id = device (comm address (number (pos 0)) (number (pos 0))) (number (pos 1)) id count false (replicate 4 freshAxis)
+fresh address count id = device (freshComm address) (number (pos 1)) id count false (replicate 4 freshAxis)

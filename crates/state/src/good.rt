@@ -54,9 +54,15 @@ impl Device {
         ensures { λ r. ⌜ r ≡ askFresh address count id ⌝ }
     {
         if may_be_fresh(address, count, id) {
-            Device::new(address, count, id).beside(0)
+            Outcome {
+                number: 0,
+                next: Device::new(address, count, id),
+            }
         } else {
-            Device::new(Number(1), 1, Number(0)).beside(21)
+            Outcome {
+                number: 21,
+                next: Device::new(Number(1), 1, Number(0)),
+            }
         }
     }
 }

@@ -1,7 +1,7 @@
 // The device record, by value: its settings, four axis places, and the fresh record.
 // What commands and reports do to it is in the crate `device`.
 ghost use mathlib.Core.Path.{_≡_};
-ghost use Rattle.state.specs.Record.{value as valueOf, put as putOf, withParked, fresh as freshOf};
+ghost use Rattle.state.specs.Record.{value as valueOf, put as putOf, freshComm, fresh as freshOf};
 use axis::Axis;
 use command::DeviceSetting;
 use units::Number;
@@ -27,6 +27,19 @@ pub struct Device {
 pub struct Outcome {
     pub number: u8,
     pub next: Device,
+}
+
+impl Comm {
+    fn fresh(address: Number) -> Comm
+        ensures { λ r. ⌜ r ≡ freshComm address ⌝ }
+    {
+        let zero = Number(0);
+        Comm {
+            address,
+            alert: zero,
+            checksum: zero,
+        }
+    }
 }
 
 impl Device {
@@ -71,22 +84,10 @@ impl Device {
         self
     }
 
-    pub fn with_parked(mut self, parked: bool) -> Device
-        ensures { λ r. ⌜ r ≡ withParked parked self ⌝ }
-    {
-        self.parked = parked;
-        self
-    }
-
     pub fn new(address: Number, count: u8, id: Number) -> Device
         ensures { λ r. ⌜ r ≡ freshOf address count id ⌝ }
     {
-        let zero = Number(0);
-        let comm = Comm {
-            address,
-            alert: zero,
-            checksum: zero,
-        };
+        let comm = Comm::fresh(address);
         let access = Number(1);
         let axis = Axis::fresh();
         Device {
@@ -97,13 +98,6 @@ impl Device {
             parked: false,
             axes: [axis; 4],
         }
-    }
-
-    // This record as the next one, beside a number.
-    pub fn beside(self, number: u8) -> Outcome
-        ensures { λ r. ⌜ r ≡ record { number = number; next = self } ⌝ }
-    {
-        Outcome { number, next: self }
     }
 }
 

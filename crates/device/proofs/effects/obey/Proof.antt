@@ -14,21 +14,15 @@ refusal-requires c κs = search needs
 next-requires : tie.Need-next-requires
 next-requires c κs = search needs
 
-beside-requires : tie.Need-beside-requires
-beside-requires c κs = search needs
-
-beside-requires-2 : tie.Need-beside-requires-2
-beside-requires-2 c κs = search needs
-
 returns : tie.Need-returns
 unfolding obey
-returns c = simp (c .beside .ensures, c .before .next .ensures, sym (c .before .before .before .refusal .ensures) ∙ c .before .before .if1 .taken)
+returns c = simp (c .next .ensures, sym (c .before .before .refusal .ensures) ∙ c .before .if1 .taken)
 
 returns-2 : tie.Need-returns-2
 unfolding obey
-returns-2 c = simp (c .beside2 .ensures, c .before .before .refusal .ensures, simp (c .before .before .refusal .ensures) at (ne-eqb _ _ (c .before .if1 .left)))
+returns-2 c = simp (c .before .refusal .ensures, simp (c .before .refusal .ensures) at (ne-eqb _ _ (c .if1 .left)))
 
 pub obey-spec : {M : Type 1} → statement M
 obey-spec =
     tie.close
-    (tie.spec refusal-requires next-requires beside-requires beside-requires-2 returns returns-2)
+    (tie.spec refusal-requires next-requires returns returns-2)

@@ -16,19 +16,13 @@ report-refusal-requires c κs = search needs
 change-requires : tie.Need-change-requires
 change-requires c κs = search needs
 
-beside-requires : tie.Need-beside-requires
-beside-requires c κs = search needs
-
-beside-requires-2 : tie.Need-beside-requires-2
-beside-requires-2 c κs = search needs
-
 returns : tie.Need-returns
 unfolding report
-returns c = simp (c .beside .ensures, c .before .change .ensures, c .before .before .before .before .place .ensures, simp (c .before .before .before .before .place .ensures) at (sym (c .before .before .before .report-refusal .ensures) ∙ c .before .before .if1 .taken))
+returns c = simp (c .change .ensures, c .before .before .before .place .ensures, simp (c .before .before .before .place .ensures) at (sym (c .before .before .report-refusal .ensures) ∙ c .before .if1 .taken))
 
 returns-2 : tie.Need-returns-2
 unfolding report
-returns-2 c = simp (c .beside2 .ensures, c .before .before .report-refusal .ensures, c .before .before .before .place .ensures, simp (c .before .before .report-refusal .ensures, c .before .before .before .place .ensures) at (ne-eqb _ _ (c .before .if1 .left)))
+returns-2 c = simp (c .before .report-refusal .ensures, c .before .before .place .ensures, simp (c .before .report-refusal .ensures, c .before .before .place .ensures) at (ne-eqb _ _ (c .if1 .left)))
 
 pub report-spec : {M : Type 1} → statement M
 report-spec =
@@ -37,7 +31,5 @@ report-spec =
     place-requires
     report-refusal-requires
     change-requires
-    beside-requires
-    beside-requires-2
     returns
     returns-2)

@@ -11,22 +11,16 @@ may-be-fresh-requires c κs = search needs
 new-requires : tie.Need-new-requires
 new-requires c κs = search needs
 
-beside-requires : tie.Need-beside-requires
-beside-requires c κs = search needs
-
 new-requires-2 : tie.Need-new-requires-2
 new-requires-2 c κs = search needs
 
-beside-requires-2 : tie.Need-beside-requires-2
-beside-requires-2 c κs = search needs
-
 returns : tie.Need-returns
 unfolding askFresh
-returns c = simp (c .beside .ensures, c .before .new .ensures, simp (c .before .before .before .may-be-fresh .ensures) at (c .before .before .if1 .taken))
+returns c = simp (c .new .ensures, simp (c .before .before .may-be-fresh .ensures) at (c .before .if1 .taken))
 
 returns-2 : tie.Need-returns-2
 unfolding askFresh
-returns-2 c = simp (c .beside2 .ensures, c .before .new2 .ensures, simp (c .before .before .before .may-be-fresh .ensures) at (c .before .before .if1 .left))
+returns-2 c = simp (c .new2 .ensures, simp (c .before .before .may-be-fresh .ensures) at (c .before .if1 .left))
 
 pub fresh-spec : {M : Type 1} → statement M
 fresh-spec =
@@ -34,8 +28,6 @@ fresh-spec =
     (tie.spec
     may-be-fresh-requires
     new-requires
-    beside-requires
     new-requires-2
-    beside-requires-2
     returns
     returns-2)
