@@ -8,7 +8,7 @@ use native.Mathlib.Omega.{arith}
 use lib.Dec.{eqb, ltb}
 use lib.ListN.{length, take, drop, length-take}
 use lib.Seq.{drop-drop}
-use borrow.Author.Tests.{lt-ltb, le-ltb, eq-eqb, ne-eqb}
+use borrow.Author.Tests.{lt-ltb, le-ltb}
 use Rattle.laws.specs.Refusals.{firstOf}
 use Rattle.words.specs.Cutting.{cut, headWord, tailWords}
 use Rattle.number.specs.Reading.{readAddress}
@@ -26,11 +26,10 @@ use Rattle.line.specs.Reading.{frameOf, startsNumber, axisDigit, axisOf, addres
 use Rattle.line.proofs.Frames.{content-fits}
 use Rattle.state.specs.declared.Device.{Device}
 use Rattle.state.specs.Good.{good}
-use Rattle.device.specs.Refusals.{refusal}
 use Rattle.data.specs.Data.{echoed}
 use Rattle.view.specs.Data.{dataOf}
 use Rattle.carriage.specs.declared.Answer.{Answer}
-use Rattle.carriage.specs.Step.{Stepped, Gives, silent, rejected, accepted, obeyed, concerns, addressed, silence, respond, step}
+use Rattle.carriage.specs.Step.{Stepped, Gives, silent, concerns, addressed, silence, respond, step}
 
 pub gives-as : {s t : Stepped} {r : Answer} {c : List ℕ} → s ≡ t → Gives s r c → Gives t r c
 gives-as {r = r} {c = c} e g = subst (λ (x : Stepped). Gives x r c) e g

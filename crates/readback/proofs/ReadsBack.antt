@@ -1,8 +1,8 @@
 -- Every command that the host's writer accepts is written as a spelling of that command, with a checksum and without.
 -- So, by demand 3, the line reader reads it as that same command. Assumes nothing.
 use mathlib.Core.Path.{_≡_, refl, sym, subst}
-use mathlib.Core.Bool.{Bool, true, false, cond, _||_}
-use mathlib.Core.List.{List, [], _++_, append-assoc}
+use mathlib.Core.Bool.{Bool, true, false, _||_}
+use mathlib.Core.List.{List, _++_, append-assoc}
 use mathlib.Core.Option.{some}
 use Prim.Native.Nat.{ℕ, _≤_, _<_}
 use native.Mathlib.Nat.{mod-eq-of-lt}
@@ -16,7 +16,7 @@ use Rattle.laws.specs.Refusals.{firstOf}
 use Rattle.laws.proofs.Bools.{clash, or-left, or-right}
 use Rattle.laws.proofs.Each.{more}
 use Rattle.number.specs.Checksum.{checksum, sumText}
-use Rattle.number.specs.Decimal.{lastDigit, digits, hexPair}
+use Rattle.number.specs.Decimal.{lastDigit, digits}
 use Rattle.number.specs.Spelling.{Digit}
 use Rattle.number.proofs.Decimal.{digits-one, address-spelled, pair-spelled}
 use Rattle.phrase.specs.Types.{Command}

@@ -11,7 +11,6 @@ use crate::put_values;
 use command::Command;
 use command::Setting;
 use state::Device;
-use units::Number;
 use wire::put_signed;
 use wire::put_text;
 
