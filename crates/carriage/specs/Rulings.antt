@@ -20,10 +20,11 @@ abbrev pub ruleWords : Device → ℕ → ℕ → WordsRead → Ruling
 ruleWords d k skip (Words.Refused n) = Rejected k n
 ruleWords d k skip (Words.Command c) = cond (eqb (refusal d k c) 0) (Accepted k skip c) (Rejected k (refusal d k c))
 
--- the reader's 4, or 5
+-- the reader's 4; or 5 where the line does not concern the device; or what its words come to
 abbrev pub rule : Device → LineRead → Ruling
 rule d (Line.Silent n) = Silent n
 rule d (Line.Addressed a k skip w) = cond (concerns d a) (ruleWords d k skip w) (Silent 5)
 
+-- what a reply has of its record besides the data
 abbrev pub headingOf : Device → ℕ → Bool → Heading
 headingOf d k ok = record { head = headOf d k ok; sum = wantsSum d }
