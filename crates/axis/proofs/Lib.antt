@@ -1,2 +1,6 @@
 pub mod Aim
 pub mod GoodStays
+pub mod MotorReports
+pub mod GoodUnderReports
+pub mod GoodUnderCommands
+pub mod OnlyShows

@@ -5,3 +5,7 @@ pub mod Aim
 pub mod Good
 pub mod Warnings
 pub mod Moves
+pub mod RaisedWarnings
+pub mod Reports
+pub mod Commands
+pub mod Shows

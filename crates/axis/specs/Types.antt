@@ -20,3 +20,6 @@ pub use Rattle.settings.specs.declared.Limit.{Limit}
 pub use Rattle.settings.specs.declared.Current.{Current}
 pub use Rattle.settings.specs.declared.Settings.{Settings}
 pub use Rattle.axis.specs.declared.Axis.{Axis}
+pub use Rattle.axis.specs.declared.reports.Report.{Report}
+pub use Rattle.axis.specs.declared.reports.Report.the-variants.{MovingAt, StoppedAt, HomeReached, Raised, DriverNormal, Unknown}
+pub use Rattle.axis.specs.declared.commands.Demands.{Demands}

@@ -106,6 +106,8 @@ impl Axis {
     }
 }
 
+pub mod commands;
 pub mod good;
 pub mod moves;
+pub mod reports;
 pub mod travel;

@@ -9,8 +9,8 @@ use lib.IntN.{pos}
 use lib.ListN.{take, replicate}
 use Rattle.laws.specs.Text.{text}
 use Rattle.units.specs.Units.{number}
-use Rattle.state.specs.declared.Device.{Device}
-use Rattle.state.specs.Record.{withAxes, fresh}
+use Rattle.device.specs.declared.Device.{Device}
+use Rattle.device.specs.Record.{withAxes, fresh}
 use Rattle.axis.specs.declared.Axis.{Axis}
 use Rattle.carriage.specs.Step.{step}
 use Rattle.carriage.specs.Open.{answering}

@@ -18,13 +18,13 @@ use Rattle.phrase.specs.Reading.{echoOf}
 use Rattle.line.specs.declared.LineRead.{LineRead}
 use Rattle.line.specs.declared.LineRead.the-variants.{Silent, Addressed}
 use Rattle.line.specs.Reading.{readLine, wordsOf}
-use Rattle.state.specs.declared.Device.{Device}
-use Rattle.state.specs.Good.{good}
-use Rattle.device.specs.Refusals.{refusal}
-use Rattle.device.specs.Effects.{next, obey}
-use Rattle.device.proofs.GoodStays.{good-stays}
-use Rattle.device.proofs.RefusalKeeps.{accepted-next}
-use Rattle.data.specs.Data.{refusalName}
+use Rattle.device.specs.declared.Device.{Device}
+use Rattle.device.specs.Good.{good}
+use Rattle.rules.specs.Refusals.{refusal}
+use Rattle.rules.specs.Effects.{next, obey}
+use Rattle.rules.proofs.GoodStays.{good-stays}
+use Rattle.rules.proofs.RefusalKeeps.{accepted-next}
+use Rattle.reply.specs.Data.{refusalName}
 use Rattle.view.specs.Data.{dataOf}
 use Rattle.carriage.specs.declared.Answer.{Answer}
 use Rattle.carriage.specs.Step.{Stepped, Gives, silent, written, replyOf, rejected, accepted, obeyed, unread, notMine, answered, silence, respond, step}

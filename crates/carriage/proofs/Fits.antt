@@ -22,8 +22,8 @@ use Rattle.units.specs.declared.Position.{Position}
 use Rattle.units.specs.declared.Number.{Number}
 use Rattle.units.proofs.Signed.{within-fits}
 use Rattle.units.proofs.Ranges.{above-least, below-most, wider}
-use Rattle.number.specs.Decimal.{decimal}
-use Rattle.number.proofs.Decimal.{decimal-length}
+use Rattle.numbers.specs.Decimal.{decimal}
+use Rattle.numbers.proofs.Decimal.{decimal-length}
 use Rattle.command.specs.declared.AxisSetting.{AxisSetting}
 use Rattle.command.specs.declared.AxisSetting.the-variants as Axis
 use Rattle.command.specs.declared.DeviceSetting.{DeviceSetting}
@@ -38,16 +38,16 @@ use Rattle.axis.specs.declared.Axis.{Axis}
 use Rattle.axis.specs.Travel.{isPlace, stored}
 use Rattle.axis.specs.Good.{goodPosition, goodAxis}
 use Rattle.axis.proofs.GoodStays.{settings-good, stored-good}
-use Rattle.state.specs.declared.Device.{Device}
-use Rattle.state.specs.Record.{many, axesOf}
-use Rattle.state.specs.Good.{good}
-use Rattle.state.specs.Record as Record
-use Rattle.state.specs.Good as Good
-use Rattle.device.specs.Refusals.{badAxis, refusal}
-use Rattle.device.proofs.Accepted.{within-count}
-use Rattle.device.proofs.GoodStays.{Good, parts}
-use Rattle.data.specs.Data.{values, echoed}
-use Rattle.data.proofs.Lengths.{Short, values-length, list-length, echoed-none, echo-fits}
+use Rattle.device.specs.declared.Device.{Device}
+use Rattle.device.specs.Record.{many, axesOf}
+use Rattle.device.specs.Good.{good}
+use Rattle.device.specs.Record as Record
+use Rattle.device.specs.Good as Good
+use Rattle.rules.specs.Refusals.{badAxis, refusal}
+use Rattle.rules.proofs.Accepted.{within-count}
+use Rattle.rules.proofs.GoodStays.{Good, parts}
+use Rattle.reply.specs.Data.{values, echoed}
+use Rattle.reply.proofs.Lengths.{Short, values-length, list-length, echoed-none, echo-fits}
 use Rattle.view.specs.View.{valueIn, valuesOf, warningsOf}
 use Rattle.view.specs.declared.Value.{Value}
 use Rattle.view.specs.declared.Value.the-variants as Value

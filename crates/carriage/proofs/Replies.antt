@@ -19,11 +19,11 @@ use Rattle.command.specs.declared.Setting.the-variants.{OfAxis, OfDevice}
 use Rattle.command.specs.declared.Command.{Command}
 use Rattle.command.specs.declared.Command.the-variants.{Nothing, Home, Stop, Estop, MoveTo, MoveVel, Get, Set, Storepos, StoreposAt, StoreposCurrent, Warnings, WarningsClear, ParkingState, Park, Unpark, Echo}
 use Rattle.command.specs.Settings.{deviceSettings}
-use Rattle.wire.specs.Wrote.{Wrote}
-use Rattle.state.specs.declared.Device.{Device}
-use Rattle.state.specs.Record.{onAxes}
-use Rattle.state.specs.Good.{inRange, good}
-use Rattle.device.specs.Effects.{next}
+use Rattle.buffer.specs.Wrote.{Wrote}
+use Rattle.device.specs.declared.Device.{Device}
+use Rattle.device.specs.Record.{onAxes}
+use Rattle.device.specs.Good.{inRange, good}
+use Rattle.rules.specs.Effects.{next}
 use Rattle.reply.specs.declared.Head.{Head}
 use Rattle.reply.specs.Reply.{body, ending, reply}
 use Rattle.reply.proofs.Room.{reply-done}

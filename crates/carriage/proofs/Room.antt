@@ -20,10 +20,10 @@ use Rattle.line.specs.Reading.{frameOf, readLine, wordsOf, contentOf, numberOf}
 use Rattle.line.specs.Refusals.{refusalOf}
 use Rattle.line.proofs.Frames.{content-fits}
 use Rattle.line.proofs.Refused.{line-refused}
-use Rattle.state.specs.declared.Device.{Device}
-use Rattle.device.specs.Effects.{next}
-use Rattle.data.specs.Data.{refusalName}
-use Rattle.data.proofs.Lengths.{refusal-length}
+use Rattle.device.specs.declared.Device.{Device}
+use Rattle.rules.specs.Effects.{next}
+use Rattle.reply.specs.Data.{refusalName}
+use Rattle.reply.proofs.Lengths.{refusal-length}
 use Rattle.reply.proofs.Room.{reply-length}
 use Rattle.view.specs.View.{headOf}
 use Rattle.view.specs.Data.{dataOf}

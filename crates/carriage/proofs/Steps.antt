@@ -11,9 +11,9 @@ use lib.Seq.{drop-drop}
 use borrow.Author.Tests.{lt-ltb, le-ltb}
 use Rattle.laws.specs.Refusals.{firstOf}
 use Rattle.words.specs.Cutting.{cut, headWord, tailWords}
-use Rattle.number.specs.Reading.{readAddress}
-use Rattle.number.specs.declared.UnsignedRead.{UnsignedRead}
-use Rattle.number.specs.declared.UnsignedRead.the-variants as Unsigned
+use Rattle.numbers.specs.Reading.{readAddress}
+use Rattle.numbers.specs.declared.UnsignedRead.{UnsignedRead}
+use Rattle.numbers.specs.declared.UnsignedRead.the-variants as Unsigned
 use Rattle.command.specs.declared.Command.{Command}
 use Rattle.command.specs.declared.Command.the-variants.{Nothing, Home, Stop, Estop, MoveTo, MoveVel, Get, Set, Storepos, StoreposAt, StoreposCurrent, Warnings, WarningsClear, ParkingState, Park, Unpark, Echo}
 use Rattle.phrase.specs.declared.WordsRead.{WordsRead}
@@ -24,9 +24,9 @@ use Rattle.line.specs.declared.LineRead.{LineRead}
 use Rattle.line.specs.declared.LineRead.the-variants.{Silent, Addressed}
 use Rattle.line.specs.Reading.{frameOf, startsNumber, axisDigit, axisOf, addressOf, readWords, readLine, wordsOf}
 use Rattle.line.proofs.Frames.{content-fits}
-use Rattle.state.specs.declared.Device.{Device}
-use Rattle.state.specs.Good.{good}
-use Rattle.data.specs.Data.{echoed}
+use Rattle.device.specs.declared.Device.{Device}
+use Rattle.device.specs.Good.{good}
+use Rattle.reply.specs.Data.{echoed}
 use Rattle.view.specs.Data.{dataOf}
 use Rattle.carriage.specs.declared.Answer.{Answer}
 use Rattle.carriage.specs.Step.{Stepped, Gives, silent, concerns, addressed, silence, respond, step}

@@ -7,8 +7,8 @@ use Rattle.phrase.specs.declared.WordsRead.{WordsRead}
 use Rattle.phrase.specs.declared.WordsRead.the-variants as Words
 use Rattle.line.specs.declared.LineRead.{LineRead}
 use Rattle.line.specs.declared.LineRead.the-variants as Line
-use Rattle.state.specs.declared.Device.{Device}
-use Rattle.device.specs.Refusals.{refusal}
+use Rattle.device.specs.declared.Device.{Device}
+use Rattle.rules.specs.Refusals.{refusal}
 use Rattle.view.specs.View.{headOf}
 use Rattle.carriage.specs.declared.Heading.{Heading}
 use Rattle.carriage.specs.declared.Ruling.{Ruling}

@@ -7,25 +7,25 @@ ghost use lib.ListN.{length, drop};
 ghost use Rattle.words.specs.Cutting.{cut};
 ghost use Rattle.phrase.specs.Reading.{echoOf};
 ghost use Rattle.line.specs.Reading.{readWords};
-ghost use Rattle.state.specs.Good.{good as goodOf};
-ghost use Rattle.device.specs.Refusals.{refusal as refusalOf};
+ghost use Rattle.device.specs.Good.{good as goodOf};
+ghost use Rattle.rules.specs.Refusals.{refusal as refusalOf};
 ghost use Rattle.carriage.specs.Report.{report as reportOf};
 ghost use Rattle.reply.specs.Reply.{reply as replyText};
-ghost use Rattle.data.specs.Data.{refusalName};
+ghost use Rattle.reply.specs.Data.{refusalName};
 ghost use Rattle.view.specs.Data.{dataOf};
 ghost use Rattle.carriage.specs.Step.{Replied, Gives, concerns as concernsOf, respond, step as stepOf};
 ghost use Rattle.carriage.specs.Rulings.{headingOf, ruleWords, rule as ruleOf};
 use command::Command;
-use device::effects::next;
-use device::refusals::refusal;
+use device::Device;
+use device::Outcome;
 use line::Frame;
 use line::LineRead;
 use phrase::WordsRead;
 use reply::Head;
 use reply::put_end;
 use reply::put_head;
-use state::Device;
-use state::Outcome;
+use rules::effects::next;
+use rules::refusals::refusal;
 use units::Number;
 
 // The answer to a line: the number, the reply's length, and the next record.
@@ -73,7 +73,7 @@ fn put_rejection(h: Heading, number: u8, reply: &mut [u8]) -> usize
     ensures { λ r. ⌜ Replied (replyText (h .head) (h .sum) (refusalName number)) (now (reply .entry)) r (now (reply .exit)) ⌝ }
 {
     let data = put_head(reply, 0, h.head);
-    let end = data::put_refusal(reply, data, number);
+    let end = reply::data::put_refusal(reply, data, number);
     put_end(reply, end, h.sum)
 }
 
@@ -150,7 +150,7 @@ fn carry_out(d: Device, x: Ruling, s: &[u8], reply: &mut [u8]) -> Answer
             answer_of(d, n, length)
         }
         Ruling::Accepted(k, skip, c) => {
-            if orders::only_shows(c) {
+            if axis::commands::only_shows(c) {
                 let length = put_acceptance(heading_of(d, k, true), d, k, c, s, skip, reply);
                 answer_of(d, 0, length)
             } else {
@@ -173,11 +173,11 @@ pub fn step(d: Device, line: &[u8], reply: &mut [u8]) -> Answer
     if !good {
         return answer_of(d, 21, 0);
     }
-    match frame::read_frame(line) {
+    match line::framing::read_frame(line) {
         Frame::Refused(n) => answer_of(d, n, 0),
         Frame::Content(n) => {
             let s = &line[1..n + 1];
-            carry_out(d, rule(d, lineread::read_words(s)), s, reply)
+            carry_out(d, rule(d, line::reading::read_words(s)), s, reply)
         }
     }
 }
@@ -186,5 +186,5 @@ pub fn step(d: Device, line: &[u8], reply: &mut [u8]) -> Answer
 pub fn report(d: Device, axis: Number, kind: Number, last: Number) -> Outcome
     ensures { λ r. ⌜ r ≡ reportOf d axis kind last ⌝ }
 {
-    device::motor::report(d, axis, reports::report_of(kind, last))
+    rules::motor::report(d, axis, axis::reports::report_of(kind, last))
 }

@@ -1,4 +1,4 @@
+pub mod Each
 pub mod Types
-pub mod Refusals
-pub mod Effects
-pub mod Reports
+pub mod Record
+pub mod Good

@@ -20,8 +20,8 @@ pub use Rattle.settings.specs.declared.Limit.{Limit}
 pub use Rattle.settings.specs.declared.Current.{Current}
 pub use Rattle.settings.specs.declared.Settings.{Settings}
 pub use Rattle.axis.specs.declared.Axis.{Axis}
-pub use Rattle.reports.specs.declared.Report.{Report}
-pub use Rattle.reports.specs.declared.Report.the-variants.{MovingAt, StoppedAt, HomeReached, Raised, DriverNormal, Unknown}
-pub use Rattle.state.specs.declared.Comm.{Comm}
-pub use Rattle.state.specs.declared.Device.{Device}
-pub use Rattle.state.specs.declared.Outcome.{Outcome}
+pub use Rattle.axis.specs.declared.reports.Report.{Report}
+pub use Rattle.axis.specs.declared.reports.Report.the-variants.{MovingAt, StoppedAt, HomeReached, Raised, DriverNormal, Unknown}
+pub use Rattle.device.specs.declared.Comm.{Comm}
+pub use Rattle.device.specs.declared.Device.{Device}
+pub use Rattle.device.specs.declared.Outcome.{Outcome}

@@ -4,11 +4,11 @@ use command::AxisSetting;
 use command::Command;
 use command::Setting;
 use command::Target;
-use hearing::field;
-use host::Heard;
-use host::ReplyRead;
+use device::Device;
+use host_reader::Heard;
+use host_reader::ReplyRead;
+use host_reader::reading::field;
 use libc::STDOUT_FILENO;
-use state::Device;
 use units::Number;
 use units::Position;
 use units::Speed;
@@ -98,7 +98,7 @@ fn say_heard(h: Heard, reply: &[u8]) {
 }
 
 fn say_reply(reply: &[u8]) {
-    match hearing::read_reply(reply) {
+    match host_reader::reading::read_reply(reply) {
         ReplyRead::Reply(h) => say_heard(h, reply),
         ReplyRead::NotReply => say(b" => no reply\n"),
     }
@@ -109,14 +109,21 @@ fn exchange(d: Device, line: &[u8]) -> Device {
     let mut reply = [0u8; 96];
     let a = carriage::step(d, line, &mut reply);
     let next = a.next;
-    say(field(line, 0, frame::printable_len(line)));
+    say(field(line, 0, line::framing::printable_len(line)));
     say_reply(field(&reply, 0, a.length));
     next
 }
 
 fn ask(d: Device, axis: u64, c: Command, sum: bool) -> Device {
     let mut line = [0u8; 80];
-    let w = sender::write_command(&mut line, 1, axis, c, b"both  axes are at rest", sum);
+    let w = host_writer::writing::write_command(
+        &mut line,
+        1,
+        axis,
+        c,
+        b"both  axes are at rest",
+        sum,
+    );
     exchange(d, field(&line, 0, w.length))
 }
 

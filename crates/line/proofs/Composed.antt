@@ -15,10 +15,10 @@ use Rattle.laws.proofs.Order.{lt-or-le, eq-or-ne}
 use Rattle.laws.proofs.Bools.{clash, and-left, and-right}
 use Rattle.laws.proofs.Span.{span-yes, span-not, span-none, span-le}
 use Rattle.laws.proofs.Passes.{Passes, pass-cons, pass-head, pass-append, pass-both, front-passes, take-passes}
-use Rattle.number.specs.Checksum.{checksum}
-use Rattle.number.specs.Spelling.{Digit, figure, capital, small, HexPair, pair}
-use Rattle.number.specs.Reading.{readPair, saysSum}
-use Rattle.number.proofs.Numbers.{pair-read, says-pair}
+use Rattle.numbers.specs.Checksum.{checksum}
+use Rattle.numbers.specs.Spelling.{Digit, figure, capital, small, HexPair, pair}
+use Rattle.numbers.specs.Reading.{readPair, saysSum}
+use Rattle.numbers.proofs.Numbers.{pair-read, says-pair}
 use Rattle.words.specs.Spelling.{Content}
 use Rattle.words.specs.Cutting.{cut}
 use Rattle.words.proofs.Content.{Plain, done, space, byte, content-cut, cut-content, content-plain}

@@ -12,12 +12,12 @@ use borrow.Author.Tests.{lt-ltb, le-ltb}
 use Rattle.laws.specs.Text.{text}
 use Rattle.laws.proofs.Order.{lt-or-le}
 use Rattle.laws.proofs.Bools.{clash}
-use Rattle.number.specs.Spelling.{AddressWord, address}
-use Rattle.number.specs.Reading.{valueOf, readAddress}
-use Rattle.number.specs.declared.UnsignedRead.{UnsignedRead}
-use Rattle.number.specs.declared.UnsignedRead.the-variants as Unsigned
-use Rattle.number.proofs.Value.{digit-value, digit-below, digit-of, none-below}
-use Rattle.number.proofs.Numbers.{unsigned-first, address-read, address-of}
+use Rattle.numbers.specs.Spelling.{AddressWord, address}
+use Rattle.numbers.specs.Reading.{valueOf, readAddress}
+use Rattle.numbers.specs.declared.UnsignedRead.{UnsignedRead}
+use Rattle.numbers.specs.declared.UnsignedRead.the-variants as Unsigned
+use Rattle.numbers.proofs.Value.{digit-value, digit-below, digit-of, none-below}
+use Rattle.numbers.proofs.Numbers.{unsigned-first, address-read, address-of}
 use Rattle.words.specs.Cutting.{cut, headWord, tailWords}
 use Rattle.phrase.specs.Types.{Command}
 use Rattle.phrase.specs.Spelling.{Row}

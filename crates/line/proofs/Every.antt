@@ -9,9 +9,9 @@ use native.Mathlib.Nat.{mod-eq-of-lt}
 use lib.ListN.{length}
 use Rattle.laws.proofs.Each.{Each}
 use Rattle.laws.specs.Text.{text, spaced}
-use Rattle.number.specs.Spelling.{Digit, AddressWord, address}
-use Rattle.number.specs.Decimal.{lastDigit, digits}
-use Rattle.number.proofs.Decimal.{digits-one, address-spelled}
+use Rattle.numbers.specs.Spelling.{Digit, AddressWord, address}
+use Rattle.numbers.specs.Decimal.{lastDigit, digits}
+use Rattle.numbers.proofs.Decimal.{digits-one, address-spelled}
 use Rattle.words.specs.Spelling.{Spaces, Word, Content, blank, last, next}
 use Rattle.words.proofs.Content.{content-space}
 use Rattle.phrase.proofs.Written.{row-written, written-words, unsigned-word, digit-word}

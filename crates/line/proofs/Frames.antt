@@ -16,8 +16,8 @@ use Rattle.laws.proofs.Bools.{and-false, clash}
 use Rattle.laws.proofs.Lists.{rest}
 use Rattle.laws.proofs.Order.{lt-or-le}
 use Rattle.laws.proofs.Span.{span-le}
-use Rattle.number.specs.Reading.{readPair, saysSum}
-use Rattle.number.specs.declared.PairRead.{PairRead}
+use Rattle.numbers.specs.Reading.{readPair, saysSum}
+use Rattle.numbers.specs.declared.PairRead.{PairRead}
 use Rattle.line.specs.Reading.{printable, noColon, isEnd, isFooter, checked, parted, afterSlash, slashed, most, frameOf}
 use Rattle.line.specs.declared.Frame.{Frame}
 use Rattle.line.specs.declared.Frame.the-variants.{Content, Refused}

@@ -14,9 +14,9 @@ use Rattle.laws.specs.Refusals.{_when_, firstOf}
 use Rattle.laws.proofs.Order.{lt-or-le, eq-or-ne}
 use Rattle.laws.proofs.Bools.{clash}
 use Rattle.laws.proofs.Passes.{Passes, pass-append, front-passes}
-use Rattle.number.specs.Reading.{readAddress}
-use Rattle.number.specs.declared.UnsignedRead.{UnsignedRead}
-use Rattle.number.specs.declared.UnsignedRead.the-variants as Unsigned
+use Rattle.numbers.specs.Reading.{readAddress}
+use Rattle.numbers.specs.declared.UnsignedRead.{UnsignedRead}
+use Rattle.numbers.specs.declared.UnsignedRead.the-variants as Unsigned
 use Rattle.words.specs.Cutting.{cut, headWord, tailWords}
 use Rattle.phrase.specs.Reading.{readCommand}
 use Rattle.phrase.specs.Refusals.{badCommand, badData, wordsNumber, wordsRefusal}

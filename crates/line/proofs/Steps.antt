@@ -8,7 +8,7 @@ use native.Mathlib.Omega.{arith}
 use lib.Dec.{ltb}
 use lib.ListN.{length, getD, take, drop}
 use borrow.Author.Tests.{eq-eqb, ne-eqb}
-use Rattle.number.specs.Reading.{valueOf}
+use Rattle.numbers.specs.Reading.{valueOf}
 use Rattle.words.specs.Cutting.{cut}
 use Rattle.line.specs.Reading.{startsNumber, axisDigit, readWords, frameOf, readLine}
 use Rattle.line.specs.declared.Frame.{Frame}

@@ -15,7 +15,7 @@ use Rattle.laws.proofs.Order.{lt-or-le, eq-or-ne}
 use Rattle.laws.proofs.Bools.{and-left, and-right}
 use Rattle.laws.proofs.Span.{span-not, span-le}
 use Rattle.laws.proofs.Passes.{Passes, pass-append, front-passes, passes-all, all-passes}
-use Rattle.number.specs.Reading.{readPair, saysSum}
+use Rattle.numbers.specs.Reading.{readPair, saysSum}
 use Rattle.line.specs.Reading.{noColon, parted}
 use Rattle.line.specs.Refusals.{checksumRight, badSum, content}
 use Rattle.line.specs.declared.Frame.{Frame}

@@ -3,8 +3,8 @@
 use Prim.Native.Nat.{ℕ}
 use Rattle.laws.specs.Text as Text
 use Rattle.laws.specs.Lists as Lists
-use Rattle.number.specs.Checksum as Checksum
-use Rattle.number.specs.Reading as Number
+use Rattle.numbers.specs.Checksum as Checksum
+use Rattle.numbers.specs.Reading as Number
 use Rattle.words.specs.Cutting as Words
 use Rattle.words.specs.Find as Find
 use Rattle.command.specs.Settings as Settings

@@ -8,9 +8,9 @@ use lib.Dec.{eqb, ltb, leb}
 use lib.ListN.{take, drop, length}
 use Rattle.laws.specs.Lists.{span}
 use Rattle.laws.specs.Text.{CR, LF, plus-sign, minus-sign, slash, colon}
-use Rattle.number.specs.Reading.{valueOf, readAddress, readPair, saysSum}
-use Rattle.number.specs.declared.UnsignedRead.{UnsignedRead}
-use Rattle.number.specs.declared.UnsignedRead.the-variants as Unsigned
+use Rattle.numbers.specs.Reading.{valueOf, readAddress, readPair, saysSum}
+use Rattle.numbers.specs.declared.UnsignedRead.{UnsignedRead}
+use Rattle.numbers.specs.declared.UnsignedRead.the-variants as Unsigned
 use Rattle.words.specs.Cutting.{cut, headWord, tailWords}
 use Rattle.phrase.specs.Reading.{readCommand, echoOf}
 use Rattle.phrase.specs.declared.WordsRead.the-variants as Words

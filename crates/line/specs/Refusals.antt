@@ -8,9 +8,9 @@ use lib.ListN.{length, getD, take, drop}
 use Rattle.laws.specs.Lists.{all}
 use Rattle.laws.specs.Text.{slash, colon}
 use Rattle.laws.specs.Refusals.{_when_, firstOf}
-use Rattle.number.specs.Reading.{readAddress, readPair, saysSum}
-use Rattle.number.specs.declared.UnsignedRead.{UnsignedRead}
-use Rattle.number.specs.declared.UnsignedRead.the-variants as Unsigned
+use Rattle.numbers.specs.Reading.{readAddress, readPair, saysSum}
+use Rattle.numbers.specs.declared.UnsignedRead.{UnsignedRead}
+use Rattle.numbers.specs.declared.UnsignedRead.the-variants as Unsigned
 use Rattle.words.specs.Cutting.{cut, headWord, tailWords}
 use Rattle.phrase.specs.Refusals.{badCommand, badData}
 use Rattle.line.specs.Reading.{printable, noColon, isEnd, startsNumber, axisDigit}

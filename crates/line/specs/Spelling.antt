@@ -4,8 +4,8 @@ use mathlib.Core.List.{List, [], _∷_, _++_}
 use Prim.Native.Nat.{ℕ, _≤_}
 use lib.ListN.{length}
 use Rattle.laws.specs.Text.{CR, LF, text}
-use Rattle.number.specs.Checksum.{checksum}
-use Rattle.number.specs.Spelling.{Digit, AddressWord, HexPair}
+use Rattle.numbers.specs.Checksum.{checksum}
+use Rattle.numbers.specs.Spelling.{Digit, AddressWord, HexPair}
 use Rattle.words.specs.Spelling.{Content}
 use Rattle.phrase.specs.Types.{Command}
 use Rattle.phrase.specs.Spelling.{Row}

@@ -3,7 +3,7 @@
 use mathlib.Core.List.{List, _∷_, _++_}
 use Prim.Native.Nat.{ℕ, _≤_}
 use Rattle.laws.specs.Text.{text, spaced}
-use Rattle.number.specs.Decimal.{twoDigits, digits}
+use Rattle.numbers.specs.Decimal.{twoDigits, digits}
 use Rattle.phrase.specs.Writing.{commandWords, Spellable}
 use Rattle.line.specs.Spelling.{Asked}
 

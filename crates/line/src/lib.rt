@@ -1,4 +1,4 @@
-// What a line is, as types. The code that reads a line stands in the crates above: frame and lineread.
+// What a line is, as types. The code that reads a line stands in framing.rt and reading.rt.
 // The spelling is in specs/Spelling.antt, and proofs/Demand3.antt shows that just that is read.
 use phrase::WordsRead;
 
@@ -14,3 +14,6 @@ pub enum LineRead {
     Silent(u8),
     Addressed(u64, u64, usize, WordsRead),
 }
+
+pub mod framing;
+pub mod reading;

@@ -10,9 +10,9 @@ use Rattle.laws.specs.Text.{text, same}
 use Rattle.laws.specs.Refusals.{_when_, firstOf}
 use Rattle.laws.proofs.Bools.{and-false}
 use Rattle.laws.proofs.Same.{same-true}
-use Rattle.number.specs.Reading.{readNumber}
-use Rattle.number.specs.declared.NumberRead.{NumberRead}
-use Rattle.number.specs.declared.NumberRead.the-variants as Number
+use Rattle.numbers.specs.Reading.{readNumber}
+use Rattle.numbers.specs.declared.NumberRead.{NumberRead}
+use Rattle.numbers.specs.declared.NumberRead.the-variants as Number
 use Rattle.words.specs.Cutting.{headWord, tailWords}
 use Rattle.words.specs.Find.{meaningOf}
 use Rattle.command.specs.Settings.{nameOf, readOnly}

@@ -10,11 +10,11 @@ use lib.IntN.{ℤ}
 use Rattle.laws.specs.Text.{text, same}
 use Rattle.laws.proofs.Same.{same-true}
 use Rattle.units.specs.Units.{number}
-use Rattle.number.specs.Spelling.{NumberWord}
-use Rattle.number.specs.Reading.{readNumber, valueOf, unsignedFrom, digitsFrom, scan, startsHex}
-use Rattle.number.specs.declared.NumberRead.{NumberRead}
-use Rattle.number.specs.declared.NumberRead.the-variants as Number
-use Rattle.number.proofs.Numbers.{number-read, number-of}
+use Rattle.numbers.specs.Spelling.{NumberWord}
+use Rattle.numbers.specs.Reading.{readNumber, valueOf, unsignedFrom, digitsFrom, scan, startsHex}
+use Rattle.numbers.specs.declared.NumberRead.{NumberRead}
+use Rattle.numbers.specs.declared.NumberRead.the-variants as Number
+use Rattle.numbers.proofs.Numbers.{number-read, number-of}
 use Rattle.words.specs.Cutting.{headWord, tailWords}
 use Rattle.words.specs.Find.{meaningOf}
 use Rattle.words.proofs.Table.{Hits, hits}

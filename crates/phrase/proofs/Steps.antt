@@ -7,8 +7,8 @@ use Prim.Native.Nat.{ℕ}
 use native.Mathlib.Omega.{arith}
 use lib.ListN.{length}
 use Rattle.laws.specs.Text.{text, same}
-use Rattle.number.specs.Reading.{readNumber}
-use Rattle.number.specs.declared.NumberRead.{NumberRead}
+use Rattle.numbers.specs.Reading.{readNumber}
+use Rattle.numbers.specs.declared.NumberRead.{NumberRead}
 use Rattle.words.specs.Cutting.{headWord, tailWords, cut}
 use Rattle.words.specs.Find.{Entry, meaningOf, entryAt, index}
 use Rattle.words.proofs.Cut.{word-none, word-some}

@@ -11,8 +11,8 @@ use borrow.Author.Tests.{leb-true, eqb-false, not-true}
 use Rattle.laws.proofs.Each.{Each}
 use Rattle.laws.specs.Text.{text}
 use Rattle.laws.proofs.Bools.{and-left, and-right}
-use Rattle.number.specs.Spelling.{Digit, figure, capital, small, Digits, UnsignedWord, decimal, hex, NumberWord, bare, plus, minus}
-use Rattle.number.proofs.Decimal.{decimal-spelled}
+use Rattle.numbers.specs.Spelling.{Digit, figure, capital, small, Digits, UnsignedWord, decimal, hex, NumberWord, bare, plus, minus}
+use Rattle.numbers.proofs.Decimal.{decimal-spelled}
 use Rattle.words.specs.Spelling.{WordByte, Word}
 use Rattle.command.specs.Settings.{nameOf}
 use Rattle.phrase.specs.Types.{Setting, OfAxis, Pos, LimitMin, LimitMax, MaxSpeed, Accel, DriverCurrentMax, DriverCurrentRun, DriverCurrentHold, DriverDir, EncoderIndexCount, OfDevice, CommAddress, CommAlert, CommChecksum, SystemAccess, DeviceId, SystemAxisCount, Command, Nothing, Home, Stop, Estop, MoveTo, MoveVel, Abs, Rel, Min, Max, Stored, Get, Set, Storepos, StoreposAt, StoreposCurrent, Warnings, WarningsClear, ParkingState, Park, Unpark, Echo}

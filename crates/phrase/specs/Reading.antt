@@ -6,9 +6,9 @@ use Prim.Native.Nat.{ℕ}
 use lib.ListN.{drop}
 use Rattle.laws.specs.Text.{text, same}
 use Rattle.units.specs.Units.{position, speed}
-use Rattle.number.specs.Reading.{readNumber}
-use Rattle.number.specs.declared.NumberRead.{NumberRead}
-use Rattle.number.specs.declared.NumberRead.the-variants as Number
+use Rattle.numbers.specs.Reading.{readNumber}
+use Rattle.numbers.specs.declared.NumberRead.{NumberRead}
+use Rattle.numbers.specs.declared.NumberRead.the-variants as Number
 use Rattle.words.specs.Cutting.{headWord, tailWords}
 use Rattle.words.specs.Find.{Entry, _means_, meaningOf}
 use Rattle.phrase.specs.Types.{Number, Setting, OfAxis, Pos, LimitMin, LimitMax, MaxSpeed, Accel, DriverCurrentMax, DriverCurrentRun, DriverCurrentHold, DriverDir, EncoderIndexCount, OfDevice, CommAddress, CommAlert, CommChecksum, SystemAccess, DeviceId, SystemAxisCount, Command, Nothing, Home, Stop, Estop, MoveTo, MoveVel, Abs, Rel, Min, Max, Stored, Get, Set, Storepos, StoreposAt, StoreposCurrent, Warnings, WarningsClear, ParkingState, Park, Unpark, Echo}

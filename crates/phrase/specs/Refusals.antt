@@ -8,9 +8,9 @@ use lib.ListN.{length, drop}
 use Rattle.laws.specs.Lists.{any}
 use Rattle.laws.specs.Text.{text, same}
 use Rattle.laws.specs.Refusals.{_when_, firstOf}
-use Rattle.number.specs.Reading.{readNumber}
-use Rattle.number.specs.declared.NumberRead.{NumberRead}
-use Rattle.number.specs.declared.NumberRead.the-variants as Number
+use Rattle.numbers.specs.Reading.{readNumber}
+use Rattle.numbers.specs.declared.NumberRead.{NumberRead}
+use Rattle.numbers.specs.declared.NumberRead.the-variants as Number
 use Rattle.command.specs.Settings.{readOnly}
 use Rattle.phrase.specs.Reading.{readSetting}
 use Rattle.phrase.specs.declared.SettingRead.{SettingRead}

@@ -7,7 +7,7 @@ use Prim.Native.Nat.{ℕ}
 use lib.IntN.{ℤ}
 use Rattle.laws.specs.Text.{text}
 use Rattle.units.specs.Units.{position, speed, number}
-use Rattle.number.specs.Spelling.{NumberWord}
+use Rattle.numbers.specs.Spelling.{NumberWord}
 use Rattle.phrase.specs.Types.{Setting, Command, Nothing, Home, Stop, Estop, MoveTo, MoveVel, Abs, Rel, Min, Max, Stored, Get, Set, Storepos, StoreposAt, StoreposCurrent, Warnings, WarningsClear, ParkingState, Park, Unpark, Echo}
 use Rattle.command.specs.Settings.{nameOf, readOnly}
 

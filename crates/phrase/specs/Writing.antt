@@ -9,7 +9,7 @@ use mir.Syntax.{w32}
 use mir.Val.{SFits}
 use Rattle.laws.specs.Text.{text}
 use Rattle.laws.proofs.Each.{Each}
-use Rattle.number.specs.Decimal.{decimal}
+use Rattle.numbers.specs.Decimal.{decimal}
 use Rattle.words.specs.Spelling.{Word}
 use Rattle.command.specs.Settings.{nameOf, readOnly}
 use Rattle.phrase.specs.Reading.{isEcho}

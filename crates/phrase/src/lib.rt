@@ -1,12 +1,12 @@
-// What a command's words come to, and the row that waits for its number. The code that reads the words stands in the
-// crates above: operand, verbs, tools and reader.
+// What a command's words come to, and the row that waits for its number. The code that reads the words stands in
+// operand.rt, verbs.rt, toolwords.rt and reading.rt.
 // The spelling is in specs/Spelling.antt, and proofs/Rows.antt shows that just that is read.
 ghost use mathlib.Core.Path.{_≡_};
 ghost use Rattle.phrase.specs.Reading.{numbered as numberedBy, made};
 use command::Command;
 use command::Setting;
 use command::Target;
-use number::NumberRead;
+use numbers::NumberRead;
 use units::Number;
 
 // What a command's words come to: the command, or the number of the refusal.
@@ -60,3 +60,8 @@ impl Numbered {
         }
     }
 }
+
+pub mod operand;
+pub mod reading;
+pub mod toolwords;
+pub mod verbs;

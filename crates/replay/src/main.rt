@@ -5,8 +5,8 @@ use libc::STDOUT_FILENO;
 
 // A file's name: two digits, and its ending.
 fn name(k: u8, ending: &[u8], buf: &mut [u8]) -> usize {
-    let dot = wire::put_two(buf, 0, k as u64);
-    wire::put_text(buf, dot, ending)
+    let dot = buffer::put_two(buf, 0, k as u64);
+    buffer::put_text(buf, dot, ending)
 }
 
 // Reads a file of data/ to the front of buf, and answers how many bytes it has; of a file that is missing, none.

@@ -8,13 +8,13 @@ use native.Mathlib.Nat.{zero-add}
 use native.Mathlib.Omega.{arith}
 use lib.ListN.{length, take, drop, length-append}
 use Rattle.laws.specs.Text.{text}
-use Rattle.number.specs.Checksum.{sumText}
-use Rattle.number.specs.Decimal.{digits, twoDigits, hexPair}
-use Rattle.number.proofs.Decimal.{digits-length}
-use Rattle.wire.specs.Wrote.{Wrote}
-use Rattle.wire.proofs.Wrote.{_▸_, wrote-room, wrote-read}
+use Rattle.numbers.specs.Checksum.{sumText}
+use Rattle.numbers.specs.Decimal.{digits, twoDigits, hexPair}
+use Rattle.numbers.proofs.Decimal.{digits-length}
+use Rattle.buffer.specs.Wrote.{Wrote}
+use Rattle.buffer.proofs.Wrote.{_▸_, wrote-room, wrote-read}
 use Rattle.flags.specs.Flags.{bits, first, warningNames}
-use Rattle.data.specs.Parts.{warningAt}
+use Rattle.reply.specs.Parts.{warningAt}
 use Rattle.reply.specs.Reply.{verdict, status, highest, body, ending, reply}
 use Rattle.reply.specs.declared.Head.{Head}
 use Rattle.reply.proofs.Texts.{highest-is, gap, head-is, body-is}

@@ -10,12 +10,12 @@ use lib.ListN.{length, take, drop}
 use lib.Seq.{take-all, take-nil}
 use Rattle.laws.specs.Text.{space, text, spaced}
 use Rattle.laws.proofs.Order.{lt-or-le}
-use Rattle.number.specs.Checksum.{checksum, sumText}
-use Rattle.number.specs.Decimal.{digits, twoDigits, hexPair}
+use Rattle.numbers.specs.Checksum.{checksum, sumText}
+use Rattle.numbers.specs.Decimal.{digits, twoDigits, hexPair}
 use Rattle.flags.specs.Flags.{bits, first}
 use Rattle.flags.proofs.Names.{warnings-highest}
-use Rattle.data.specs.Data.{warningsIn}
-use Rattle.data.specs.Parts.{warningAt}
+use Rattle.reply.specs.Data.{warningsIn}
+use Rattle.reply.specs.Parts.{warningAt}
 use Rattle.reply.specs.Reply.{verdict, status, highest, body}
 use Rattle.reply.specs.declared.Head.{Head}
 

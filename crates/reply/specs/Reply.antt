@@ -5,9 +5,9 @@ use mathlib.Core.List.{List, [], _∷_, _++_}
 use Prim.Native.Nat.{ℕ}
 use lib.ListN.{getD}
 use Rattle.laws.specs.Text.{text, spaced}
-use Rattle.number.specs.Checksum.{sumText}
-use Rattle.number.specs.Decimal.{digits, twoDigits}
-use Rattle.data.specs.Data.{warningsIn}
+use Rattle.numbers.specs.Checksum.{sumText}
+use Rattle.numbers.specs.Decimal.{digits, twoDigits}
+use Rattle.reply.specs.Data.{warningsIn}
 use Rattle.reply.specs.declared.Head.{Head}
 
 unfoldable pub verdict : Bool → List ℕ

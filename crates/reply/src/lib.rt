@@ -4,16 +4,16 @@ ghost use mathlib.Core.Path.{_≡_};
 ghost use mathlib.Core.List.{_++_};
 ghost use lib.ListN.{take, drop};
 ghost use Rattle.laws.specs.Text.{text};
-ghost use Rattle.number.specs.Checksum.{checksum, sumText};
-ghost use Rattle.wire.specs.Wrote.{Wrote};
+ghost use Rattle.numbers.specs.Checksum.{checksum, sumText};
+ghost use Rattle.buffer.specs.Wrote.{Wrote};
 ghost use Rattle.reply.specs.Reply.{verdict, status, body, ending};
-use data::lesser;
-use data::put_warning;
-use wire::put_byte;
-use wire::put_number;
-use wire::put_pair;
-use wire::put_text;
-use wire::put_two;
+use crate::data::lesser;
+use crate::data::put_warning;
+use buffer::put_byte;
+use buffer::put_number;
+use buffer::put_pair;
+use buffer::put_text;
+use buffer::put_two;
 
 // What stands before a reply's data. The mask has a bit for each warning, the highest first.
 pub struct Head {
@@ -67,7 +67,7 @@ fn summed(buf: &[u8], at: usize) -> u8
 {
     let end = lesser(at, buf.len());
     let from = lesser(1, end);
-    number::checksum(&buf[from..end])
+    numbers::checksum(&buf[from..end])
 }
 
 // That checksum behind a colon, if it is wanted.
@@ -90,3 +90,5 @@ pub fn put_end(buf: &mut [u8], at: usize, sum: bool) -> usize
     let end = put_sum(buf, at, sum);
     put_text(buf, end, b"\r\n")
 }
+
+pub mod data;

@@ -12,23 +12,23 @@ use Rattle.laws.specs.Text.{LF, text}
 use Rattle.laws.proofs.Each.{none, more}
 use Rattle.laws.proofs.Refusals.{at-most}
 use Rattle.units.specs.Units.{place}
-use Rattle.number.proofs.Decimal.{digits-length}
+use Rattle.numbers.proofs.Decimal.{digits-length}
 use Rattle.words.specs.Cutting.{grow}
-use Rattle.state.specs.declared.Device.{Device}
-use Rattle.reports.specs.declared.Report.{Report as Motor}
-use Rattle.reports.specs.Reports.{reportOf}
-use Rattle.device.specs.Reports as Device
-use Rattle.data.specs.Data.{refusalName}
+use Rattle.device.specs.declared.Device.{Device}
+use Rattle.axis.specs.declared.reports.Report.{Report as Motor}
+use Rattle.axis.specs.Reports.{reportOf}
+use Rattle.rules.specs.Reports as Device
+use Rattle.reply.specs.Data.{refusalName}
 use Rattle.reply.specs.Reply.{reply}
 use Rattle.carriage.specs.Step.{Stepped, silent, written, replyOf, rejected, accepted, step}
 use Rattle.carriage.specs.Report as Report
 use Rattle.carriage.proofs.Demands.{every-answer}
 use Rattle.carriage.proofs.Room.{reply-at-most-96, silence-small}
-use Rattle.reportline.specs.declared.ReportRead.{ReportRead}
-use Rattle.reportline.specs.declared.ReportRead.the-variants.{Report, Misspelt}
-use Rattle.reportline.specs.Reading.{readReport}
-use Rattle.parts.specs.Parts.{parts}
-use Rattle.parts.specs.Prints.{isReport, told, answered}
+use Rattle.input.specs.declared.reportline.ReportRead.{ReportRead}
+use Rattle.input.specs.declared.reportline.ReportRead.the-variants.{Report, Misspelt}
+use Rattle.input.specs.ReportLines.{readReport}
+use Rattle.input.specs.Parts.{parts}
+use Rattle.input.specs.Prints.{isReport, told, answered}
 use Rattle.session.specs.Bench.{reportTurn, lineTurn, turn, turns, benchDevice, bench}
 
 told-short : (name : List ℕ) (n : ℕ) → length name ≤ 7 → n < 100 → length (told name n) ≤ 96

@@ -7,19 +7,19 @@ use Prim.Native.Nat.{ℕ, _+_, _-_, _≤_, _<_, min}
 use native.Mathlib.Omega.{arith}
 use lib.ListN.{length, take, drop, replicate, drop-of-length-le}
 use Rattle.laws.specs.Text.{text}
-use Rattle.wire.specs.Wrote.{Wrote}
-use Rattle.wire.proofs.Wrote.{_▸_, wrote-none}
-use Rattle.state.specs.declared.Device.{Device}
-use Rattle.state.specs.declared.Outcome.{Outcome}
+use Rattle.buffer.specs.Wrote.{Wrote}
+use Rattle.buffer.proofs.Wrote.{_▸_, wrote-none}
+use Rattle.device.specs.declared.Device.{Device}
+use Rattle.device.specs.declared.Outcome.{Outcome}
 use Rattle.carriage.specs.declared.Answer.{Answer}
 use Rattle.carriage.specs.Step.{Gives, step}
-use Rattle.reportline.specs.declared.ReportRead.{ReportRead}
-use Rattle.reportline.specs.Reading.{readReport}
+use Rattle.input.specs.declared.reportline.ReportRead.{ReportRead}
+use Rattle.input.specs.ReportLines.{readReport}
 use Rattle.session.specs.declared.Turned.{Turned}
-use Rattle.parts.specs.Parts.{parts, firstPart}
-use Rattle.parts.specs.Prints.{isReport, told, answered}
-use Rattle.parts.proofs.Parts.{part-inside, part-first}
-use Rattle.parts.proofs.Prints.{first-bytes}
+use Rattle.input.specs.Parts.{parts, firstPart}
+use Rattle.input.specs.Prints.{isReport, told, answered}
+use Rattle.input.proofs.Parted.{part-inside, part-first}
+use Rattle.input.proofs.Prints.{first-bytes}
 use Rattle.session.specs.Bench.{Turn, Took, heard, lineTurn, reportTurn, turn, turns, benchDevice, bench}
 
 -- ---- a line, a report

@@ -8,17 +8,17 @@ use lib.IntN.{pos}
 use lib.ListN.{take, replicate}
 use Rattle.laws.specs.Text.{text}
 use Rattle.units.specs.Units.{number}
-use Rattle.wire.specs.Wrote.{Wrote}
-use Rattle.state.specs.declared.Device.{Device}
-use Rattle.state.specs.declared.Outcome.{Outcome}
-use Rattle.state.specs.Record.{fresh}
+use Rattle.buffer.specs.Wrote.{Wrote}
+use Rattle.device.specs.declared.Device.{Device}
+use Rattle.device.specs.declared.Outcome.{Outcome}
+use Rattle.device.specs.Record.{fresh}
 use Rattle.carriage.specs.Step.{step}
 use Rattle.carriage.specs.Report.{report}
-use Rattle.reportline.specs.declared.ReportRead.{ReportRead}
-use Rattle.reportline.specs.declared.ReportRead.the-variants.{Report, Misspelt}
-use Rattle.reportline.specs.Reading.{readReport}
-use Rattle.parts.specs.Parts.{parts}
-use Rattle.parts.specs.Prints.{isReport, told, answered}
+use Rattle.input.specs.declared.reportline.ReportRead.{ReportRead}
+use Rattle.input.specs.declared.reportline.ReportRead.the-variants.{Report, Misspelt}
+use Rattle.input.specs.ReportLines.{readReport}
+use Rattle.input.specs.Parts.{parts}
+use Rattle.input.specs.Prints.{isReport, told, answered}
 use Rattle.session.specs.declared.Turned.{Turned}
 
 -- what a part prints, and the next record

@@ -1,17 +1,17 @@
 // What the program `bench` does with its input: one turn a part, a line or a motor report, and the whole run.
 // specs/Bench.antt says what is printed, for every input.
 ghost use mathlib.Core.Path.{_≡_};
-ghost use Rattle.wire.specs.Wrote.{Wrote};
-ghost use Rattle.parts.specs.Parts.{parts as partsOf};
-ghost use Rattle.reportline.specs.Reading.{readReport};
+ghost use Rattle.buffer.specs.Wrote.{Wrote};
+ghost use Rattle.input.specs.Parts.{parts as partsOf};
+ghost use Rattle.input.specs.ReportLines.{readReport};
 ghost use Rattle.session.specs.Bench.{Took, heard as heardOf, reportTurn, lineTurn, turn as turnOf, turns as turnsOf, bench, benchDevice as benchDeviceOf};
-use parts::is_report;
-use parts::part_end;
-use parts::put_answer;
-use parts::put_told;
-use reportline::ReportRead;
-use state::Device;
-use state::Outcome;
+use device::Device;
+use device::Outcome;
+use input::parts::is_report;
+use input::parts::part_end;
+use input::parts::put_answer;
+use input::parts::put_told;
+use input::reportline::ReportRead;
 use units::Number;
 
 // The place behind what a turn printed, and the next record.
@@ -36,7 +36,7 @@ fn heard(d: Device, r: ReportRead) -> Outcome
 fn report_turn(d: Device, part: &[u8], out: &mut [u8], at: usize) -> Turned
     ensures { λ t. ⌜ Took (reportTurn d (readReport (now (part .entry)))) (now (out .entry)) at t (now (out .exit)) ⌝ }
 {
-    let o = heard(d, reportline::read_report(part));
+    let o = heard(d, input::reportline::read_report(part));
     let next = o.next;
     Turned {
         place: put_told(out, at, b"report ", o.number),
@@ -95,6 +95,6 @@ fn run_parts(first: Device, input: &[u8], out: &mut [u8]) -> usize
 pub fn run(input: &[u8], out: &mut [u8]) -> usize
     ensures { λ r. ⌜ Wrote (now (out .entry)) 0 (bench (now (input .entry))) (now (out .exit)) r ⌝ }
 {
-    let n = data::lesser(4096, input.len());
+    let n = reply::data::lesser(4096, input.len());
     run_parts(bench_device(), &input[..n], out)
 }

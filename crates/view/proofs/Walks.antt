@@ -9,9 +9,9 @@ use lib.ListN.{length, getD, take, drop, length-map}
 use Rattle.laws.proofs.Spaced.{trail}
 use Rattle.laws.proofs.Folds.{length-part, getD-part}
 use Rattle.units.specs.declared.Number.{Number}
-use Rattle.number.specs.Decimal.{decimal}
-use Rattle.data.specs.Data.{values}
-use Rattle.data.proofs.Lists.{decimals, values-none, values-some, values-more, values-end}
+use Rattle.numbers.specs.Decimal.{decimal}
+use Rattle.reply.specs.Data.{values}
+use Rattle.reply.proofs.Lists.{decimals, values-none, values-some, values-more, values-end}
 use Rattle.axis.specs.declared.Axis.{Axis}
 use Rattle.view.specs.View.{valueIn}
 use Rattle.view.specs.declared.Value.{Value}

@@ -4,14 +4,14 @@ use mathlib.Core.Bool.{cond}
 use mathlib.Core.List.{List}
 use Prim.Native.Nat.{ℕ}
 use Rattle.laws.specs.Text.{text}
-use Rattle.number.specs.Decimal.{decimal}
+use Rattle.numbers.specs.Decimal.{decimal}
 use Rattle.command.specs.declared.Setting.{Setting}
 use Rattle.command.specs.declared.Setting.the-variants.{OfAxis, OfDevice}
 use Rattle.command.specs.declared.Command.{Command}
 use Rattle.command.specs.declared.Command.the-variants.{Nothing, Home, Stop, Estop, MoveTo, MoveVel, Get, Set, Storepos, StoreposAt, StoreposCurrent, Warnings, WarningsClear, ParkingState, Park, Unpark, Echo}
-use Rattle.state.specs.declared.Device.{Device}
-use Rattle.state.specs.Record.{value}
-use Rattle.data.specs.Data.{values, warningList, echoed}
+use Rattle.device.specs.declared.Device.{Device}
+use Rattle.device.specs.Record.{value}
+use Rattle.reply.specs.Data.{values, warningList, echoed}
 use Rattle.view.specs.View.{valuesOf, warningsOf}
 use Rattle.view.specs.declared.Value.the-variants.{Of, Stored, Pos}
 use Rattle.view.specs.declared.Shown.{Shown}

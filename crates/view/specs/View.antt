@@ -13,8 +13,8 @@ use Rattle.axis.specs.declared.Axis.{Axis}
 use Rattle.axis.specs.Record.{moving}
 use Rattle.axis.specs.Travel.{stored}
 use Rattle.axis.specs.Warnings.{active}
-use Rattle.state.specs.declared.Device.{Device}
-use Rattle.state.specs.Record.{axesOf}
+use Rattle.device.specs.declared.Device.{Device}
+use Rattle.device.specs.Record.{axesOf}
 use Rattle.reply.specs.declared.Head.{Head}
 use Rattle.view.specs.declared.Value.{Value}
 use Rattle.view.specs.declared.Value.the-variants.{Of, Stored, Pos}

@@ -3,16 +3,16 @@
 ghost use mathlib.Core.Path.{_≡_};
 ghost use lib.ListN.{drop};
 ghost use Rattle.words.specs.Cutting.{cut};
-ghost use Rattle.wire.specs.Wrote.{Wrote};
+ghost use Rattle.buffer.specs.Wrote.{Wrote};
 ghost use Rattle.view.specs.Data.{settingData, parkedData, shownBy as shownOf, textOf, dataOf};
 use crate::Shown;
 use crate::Value;
 use crate::put_values;
+use buffer::put_signed;
+use buffer::put_text;
 use command::Command;
 use command::Setting;
-use state::Device;
-use wire::put_signed;
-use wire::put_text;
+use device::Device;
 
 // What a command's reply shows.
 fn shown_by(c: Command) -> Shown
@@ -66,9 +66,9 @@ fn put_shown(buf: &mut [u8], at: usize, d: Device, k: u64, x: Shown, s: &[u8], f
         Shown::Value(y) => setting_data(buf, at, d, k, y),
         Shown::StoredAt(n) => put_values(buf, at, d, k, Value::Stored(n)),
         Shown::Position => put_values(buf, at, d, k, Value::Pos),
-        Shown::Active => data::put_warnings(buf, at, d.active(k)),
+        Shown::Active => reply::data::put_warnings(buf, at, d.active(k)),
         Shown::Parked => parked_data(buf, at, d),
-        Shown::Words => data::put_echo(buf, at, s, from),
+        Shown::Words => reply::data::put_echo(buf, at, s, from),
     }
 }
 

@@ -4,17 +4,17 @@ ghost use mathlib.Core.Path.{_≡_};
 ghost use mathlib.Core.List.{map};
 ghost use Prim.Native.Nat.{_+_, _≤_};
 ghost use lib.ListN.{length, take, drop};
-ghost use Rattle.wire.specs.Wrote.{Wrote};
-ghost use Rattle.data.specs.Data.{values};
+ghost use Rattle.buffer.specs.Wrote.{Wrote};
+ghost use Rattle.reply.specs.Data.{values};
 ghost use Rattle.view.specs.View.{shownAxis, headOf, valueIn, valuesOf};
 use axis::Axis;
+use buffer::put_byte;
+use buffer::put_signed;
 use command::AxisSetting;
 use command::Setting;
+use device::Device;
 use reply::Head;
-use state::Device;
 use units::Number;
-use wire::put_byte;
-use wire::put_signed;
 
 // What is listed of an axis.
 pub enum Value {

@@ -2,7 +2,7 @@
 -- Assumes nothing.
 use mathlib.Core.Path.{sym, _∙_}
 use Rattle.words.specs.Cutting.{cut}
-use Rattle.device.proofs.OnlyShows.{shows-same}
+use Rattle.rules.proofs.OnlyShows.{shows-same}
 use Rattle.carriage.proofs.Replies.{good-count, head-digit, next-few}
 use Rattle.carriage.proofs.Rulings.{carried-silent, carried-rejected, carried-accepted, sound}
 use borrow.Author.Needs.{needs}

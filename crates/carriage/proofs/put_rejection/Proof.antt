@@ -1,7 +1,7 @@
 -- `carriage::put_rejection` meets its contract: head, name and end are the rejecting reply.
 -- Assumes nothing.
 use native.Mathlib.Omega.{arith}
-use Rattle.data.proofs.Lengths.{refusal-length}
+use Rattle.reply.proofs.Lengths.{refusal-length}
 use Rattle.carriage.proofs.Replies.{replied}
 use borrow.Author.Needs.{needs}
 use Rattle.carriage.proofs.put_rejection.Statement.{statement}

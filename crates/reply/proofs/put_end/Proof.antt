@@ -1,7 +1,7 @@
 -- `reply::put_end` meets its contract: the checksum, where it is wanted, and the footer.
 -- Assumes nothing.
 use Rattle.laws.specs.Text.{text}
-use Rattle.wire.proofs.Wrote.{_▸_}
+use Rattle.buffer.proofs.Wrote.{_▸_}
 use Rattle.reply.specs.Reply.{ending}
 use borrow.Author.Needs.{needs}
 use Rattle.reply.proofs.put_end.Statement.{statement}

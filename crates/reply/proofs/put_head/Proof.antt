@@ -1,7 +1,7 @@
 -- `reply::put_head` meets its contract: eleven writes, one behind the other.
 -- Assumes nothing.
 use Rattle.laws.specs.Text.{text}
-use Rattle.wire.proofs.Wrote.{_▸_, wrote-length}
+use Rattle.buffer.proofs.Wrote.{_▸_, wrote-length}
 use Rattle.reply.proofs.Texts.{highest-is, head-is}
 use borrow.Author.Needs.{needs}
 use Rattle.reply.proofs.put_head.Statement.{statement}

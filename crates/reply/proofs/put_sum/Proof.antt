@@ -1,7 +1,7 @@
 -- `reply::put_sum` meets its contract: the checksum of what stands before, or nothing.
 -- Assumes nothing.
 use Rattle.laws.specs.Text.{text}
-use Rattle.wire.proofs.Wrote.{_▸_, wrote-none}
+use Rattle.buffer.proofs.Wrote.{_▸_, wrote-none}
 use Rattle.reply.proofs.Texts.{sum-wanted, sum-unwanted}
 use borrow.Author.Needs.{needs}
 use Rattle.reply.proofs.put_sum.Statement.{statement}

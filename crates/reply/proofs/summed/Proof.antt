@@ -1,7 +1,7 @@
 -- `reply::summed` meets its contract: it sums what stands between the first byte and the place.
 -- Assumes nothing.
 use mathlib.Core.Path.{ap, _∙_}
-use Rattle.number.specs.Checksum.{checksum}
+use Rattle.numbers.specs.Checksum.{checksum}
 use Rattle.reply.proofs.Texts.{between}
 use borrow.Author.Needs.{needs}
 use Rattle.reply.proofs.summed.Statement.{statement}

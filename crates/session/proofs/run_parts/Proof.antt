@@ -4,8 +4,8 @@ use borrow.Author.Needs.{needs}
 use Prim.Native.Nat.{_-_}
 use native.Mathlib.Omega.{arith}
 use lib.ListN.{length}
-use Rattle.wire.proofs.Wrote.{wrote-length}
-use Rattle.parts.proofs.Parts.{part-past, part-inside}
+use Rattle.buffer.proofs.Wrote.{wrote-length}
+use Rattle.input.proofs.Parted.{part-past, part-inside}
 use Rattle.session.proofs.Turns.{Running, running-first, running-more, running-end}
 use Rattle.session.proofs.run_parts.Statement.{statement}
 use Rattle.session.proofs.run_parts.Tie as tie

@@ -9,9 +9,9 @@ use lib.IntN.{pos}
 use lib.ListN.{length, take, drop}
 use Rattle.laws.proofs.Spaced.{trail}
 use Rattle.units.specs.declared.Number.{Number}
-use Rattle.wire.proofs.Wrote.{_▸_, wrote-none, wrote-length}
-use Rattle.data.proofs.Lists.{decimals}
-use Rattle.data.proofs.Writing.{Writing, writing-first, writing-more, writing-end}
+use Rattle.buffer.proofs.Wrote.{_▸_, wrote-none, wrote-length}
+use Rattle.reply.proofs.Lists.{decimals}
+use Rattle.reply.proofs.Writing.{Writing, writing-first, writing-more, writing-end}
 use Rattle.view.specs.View.{valueIn}
 use Rattle.view.proofs.Walks.{list-none, list-some, list-more, list-end}
 use Rattle.view.proofs.put_list.Statement.{statement}

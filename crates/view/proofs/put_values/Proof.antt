@@ -1,7 +1,7 @@
 -- `view::put_values` meets its contract: the values of the axes that the number means.
 -- Assumes nothing.
-use Rattle.state.specs.Record.{many, axesOf}
-use Rattle.walks.proofs.Parts.{part-inside, part-axes}
+use Rattle.device.specs.Record.{many, axesOf}
+use Rattle.device.proofs.Parts.{part-inside, part-axes}
 use Rattle.view.specs.View.{valuesOf}
 use borrow.Author.Needs.{needs}
 use Rattle.view.proofs.put_values.Statement.{statement}

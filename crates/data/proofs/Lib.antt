@@ -1,4 +1,0 @@
-pub mod Parts
-pub mod Writing
-pub mod Lists
-pub mod Lengths

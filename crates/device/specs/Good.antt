@@ -1,0 +1,33 @@
+-- When a device record is good, and the fresh record where it may be asked for.
+-- BADSTATE, 21: "record not good; fresh record asked out of range"
+use mathlib.Core.Bool.{Bool, cond, not, _&&_}
+use Prim.Native.Nat.{ℕ}
+use lib.IntN.{pos}
+use Rattle.laws.specs.Lists.{all, any}
+use Rattle.units.specs.Units.{number, within}
+use Rattle.command.specs.Settings.{deviceSettings}
+use Rattle.settings.specs.Settings.{deviceRange}
+use Rattle.axis.specs.Record.{moving}
+use Rattle.axis.specs.Good.{goodAxis}
+use Rattle.device.specs.Types.{Number, DeviceSetting, CommAddress, DeviceId, SystemAxisCount, Device, Outcome}
+use Rattle.device.specs.Record.{value, axesOf, fresh}
+
+abbrev pub inRange : Device → DeviceSetting → Bool
+inRange d s = within (deviceRange s) (value s d .0)
+
+-- "A record is good if, for the device and the axes up to the count, all settings are in range, ...
+-- and no axis is in motion on a parked device."
+unfoldable pub good : Device → Bool
+good d = all (inRange d) deviceSettings && (all goodAxis (axesOf d 0) && not (d .parked && any moving (axesOf d 0)))
+
+-- "A fresh record is asked for with address, axis count and device id"
+unfoldable pub mayBeFresh : Number → ℕ → Number → Bool
+mayBeFresh address count id =
+    within (deviceRange CommAddress) (address .0) && (within (deviceRange SystemAxisCount) (pos count) && within (deviceRange DeviceId) (id .0))
+
+-- the record beside the 21 is of no account: it is always the same
+unfoldable pub askFresh : Number → ℕ → Number → Outcome
+askFresh address count id =
+    cond (mayBeFresh address count id)
+    (record { number = 0; next = fresh address count id })
+    (record { number = 21; next = fresh (number (pos 1)) 1 (number (pos 0)) })

@@ -1,0 +1,62 @@
+// The axes that a number means: asked, their flags joined, changed.
+// Axis 0 means all axes up to the count.
+ghost use mathlib.Core.Path.{_≡_};
+ghost use Rattle.laws.specs.Lists.{all, any};
+ghost use Rattle.flags.specs.Flags.{mask, union};
+ghost use Rattle.axis.specs.Record.{moving as movingOf};
+ghost use Rattle.axis.specs.Warnings.{active as activeOf};
+ghost use Rattle.device.specs.Each.{passes as passesOf, changed as changedBy, partOf};
+ghost use Rattle.device.specs.Record.{many as manyOf, axesOf, onAxes};
+use crate::Device;
+use crate::walks::Change;
+use crate::walks::Part;
+use crate::walks::Test;
+
+impl Device {
+    fn many(self, k: u64) -> u64
+        ensures { λ r. ⌜ r ≡ manyOf self k ⌝ }
+    {
+        if k == 0 { self.count as u64 } else { 1 }
+    }
+
+    // The axis places that k means; there are four.
+    pub fn part(self, k: u64) -> Part
+        ensures { λ r. ⌜ r ≡ partOf (manyOf self k) k ⌝ }
+    {
+        crate::walks::part_of(k, self.many(k))
+    }
+
+    // Does every axis that k means pass the test?
+    pub fn each(self, k: u64, t: Test) -> bool
+        ensures { λ r. ⌜ r ≡ all (passesOf t) (axesOf self k) ⌝ }
+    {
+        let axes = self.axes;
+        crate::walks::ask_each(axes, k, self.many(k), t)
+    }
+
+    // Does some axis that k means move?
+    pub fn moving(self, k: u64) -> bool
+        ensures { λ r. ⌜ r ≡ any movingOf (axesOf self k) ⌝ }
+    {
+        let axes = self.axes;
+        crate::walks::any_moving(axes, k, self.many(k))
+    }
+
+    // The flags that are active on some axis that k means, FD to WR, as a mask.
+    pub fn active(self, k: u64) -> u32
+        ensures { λ r. ⌜ r ≡ mask (union activeOf (axesOf self k)) ⌝ }
+    {
+        let axes = self.axes;
+        crate::walks::join_flags(axes, k, self.many(k))
+    }
+
+    // Every axis that k means changed, and all other places as they are.
+    pub fn change(mut self, k: u64, g: Change) -> Device
+        ensures { λ r. ⌜ r ≡ onAxes (changedBy g) k self ⌝ }
+    {
+        let axes = self.axes;
+        let next = crate::walks::change_each(axes, k, self.many(k), g);
+        self.axes = next;
+        self
+    }
+}

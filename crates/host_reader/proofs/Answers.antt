@@ -1,0 +1,41 @@
+-- The two answers of `read_reply`, from what its parts found.
+-- Assumes nothing.
+use mathlib.Core.Path.{_≡_, sym, _∙_}
+use mathlib.Core.Bool.{Bool, true, false, _&&_}
+use mathlib.Core.List.{List}
+use Prim.Native.Nat.{ℕ, _+_, _-_, _≤_, _<_}
+use native.Mathlib.Omega.{arith}
+use lib.Dec.{eqb}
+use lib.ListN.{length}
+use borrow.Author.Tests.{le-leb, lt-leb}
+use Rattle.host_reader.specs.Reading.{dataLength, headIn, rightHead, framed, heard, readReply}
+use Rattle.host_reader.specs.declared.Head.{Head}
+use Rattle.host_reader.specs.declared.ReplyRead.the-variants.{Reply, NotReply}
+
+module _ (l : List ℕ) where
+  pub too-long : 96 < length l → NotReply ≡ readReply l
+  unfolding readReply
+  too-long h = rw (lt-leb (length l) 96 h)
+
+  pub whole : length l ≤ 96 → (framed l (17 + dataLength l) && rightHead (headIn l)) ≡ true → readReply l ≡ Reply (heard (headIn l) (dataLength l))
+  unfolding readReply
+  whole h t = rw (le-leb (length l) 96 h, t)
+
+  broken : length l ≤ 96 → (framed l (17 + dataLength l) && rightHead (headIn l)) ≡ false → readReply l ≡ NotReply
+  unfolding readReply
+  broken h t = rw (le-leb (length l) 96 h, t)
+
+  -- as the code has it
+  module _ (end : ℕ) (h : Head) (f r : Bool) (short : length l ≤ 96) (e : end ≡ 17 + dataLength l) (q : h ≡ headIn l) (p : f ≡ framed l end) (t : r ≡ rightHead h) where
+    tests : (f && r) ≡ (framed l (17 + dataLength l) && rightHead (headIn l))
+    tests = rw (p, t, e, q)
+
+    pub is-reply : (f && r) ≡ true
+        → Reply (record { address = h .address; axis = h .axis; ok = eqb (h .verdict) 1; busy = eqb (h .status) 1; warning = h .warning; length = end - 17 }) ≡ readReply l
+    unfolding heard
+    is-reply y =
+        let n : end - 17 ≡ dataLength l = omega arith in
+        rw (n, q) (sym (whole short (sym tests ∙ y)))
+
+    pub no-reply : (f && r) ≡ false → NotReply ≡ readReply l
+    no-reply y = sym (broken short (sym tests ∙ y))

@@ -1,0 +1,63 @@
+-- `host_reader::reading::data_end` meets its contract: what is passed and what is left of the data make up the whole.
+-- Assumes nothing.
+use mathlib.Core.Path.{_≡_, refl, sym, _∙_}
+use Prim.Native.Nat.{_+_, _-_}
+use native.Mathlib.Omega.{arith}
+use lib.ListN.{length, drop}
+use Rattle.laws.specs.Lists.{span}
+use Rattle.laws.proofs.Span.{passed, stopped, ended}
+use Rattle.host_reader.specs.Reading.{dataByte, dataLength}
+use borrow.Author.Needs.{needs}
+use Rattle.host_reader.proofs.reading.data_end.Statement.{statement}
+use Rattle.host_reader.proofs.reading.data_end.Tie as tie
+
+abbrev Inv-loop : tie.InvT-loop
+Inv-loop line i₀ i = i + span dataByte (drop i line) ≡ 17 + span dataByte (drop 17 line)
+
+abbrev μ-loop : tie.MeasureT-loop
+μ-loop line i₀ i = length line - i
+
+loop-holds : tie.Need-loop-holds Inv-loop μ-loop
+loop-holds c = refl
+
+shared-slice-read-data-byte : tie.Need-shared-slice-read-data-byte Inv-loop μ-loop
+shared-slice-read-data-byte c = search needs
+
+data-byte-requires : tie.Need-data-byte-requires Inv-loop μ-loop
+data-byte-requires c κs = search needs
+
+add-i : tie.Need-add-i Inv-loop μ-loop
+add-i c = search needs
+
+loop-less : tie.Need-loop-less Inv-loop μ-loop
+loop-less c = omega arith
+
+loop-again : tie.Need-loop-again Inv-loop μ-loop
+loop-again c =
+    let turn = c .before .before .before in
+    passed dataByte _ _ (turn .loop-test .taken) (sym (c .before .data-byte .ensures) ∙ c .if1 .taken) ∙ turn .before .loop .inv
+
+returns : tie.Need-returns Inv-loop μ-loop
+unfolding dataLength
+returns c =
+    let turn = c .before .before .before in
+    sym (stopped dataByte _ _ (turn .loop-test .taken) (sym (c .before .data-byte .ensures) ∙ c .if1 .left)) ∙ turn .before .loop .inv
+
+returns-2 : tie.Need-returns-2 Inv-loop μ-loop
+unfolding dataLength
+returns-2 c = sym (ended dataByte _ _ (c .loop-test .left)) ∙ c .before .loop .inv
+
+pub data-end-spec : {M : Type 1} → statement M
+data-end-spec =
+    tie.close
+    (tie.spec
+    Inv-loop
+    μ-loop
+    loop-holds
+    shared-slice-read-data-byte
+    data-byte-requires
+    add-i
+    loop-less
+    loop-again
+    returns
+    returns-2)

@@ -1,0 +1,4 @@
+pub mod Texts
+pub mod Phrases
+pub mod Fits
+pub mod Lines

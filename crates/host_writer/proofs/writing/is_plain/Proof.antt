@@ -1,0 +1,56 @@
+-- `host_writer::writing::is_plain` meets its contract: the bytes passed and those left make up the whole.
+-- Assumes nothing.
+use mathlib.Core.Path.{_≡_, refl}
+use mathlib.Core.Bool.{_&&_}
+use Prim.Native.Nat.{_-_}
+use native.Mathlib.Omega.{arith}
+use lib.ListN.{length, drop}
+use Rattle.laws.specs.Lists.{all}
+use Rattle.laws.proofs.Folds.{all-more, all-end}
+use Rattle.host_reader.specs.Reading.{dataByte}
+use borrow.Author.Needs.{needs}
+use Rattle.host_writer.proofs.writing.is_plain.Statement.{statement}
+use Rattle.host_writer.proofs.writing.is_plain.Tie as tie
+
+abbrev Inv-loop : tie.InvT-loop
+Inv-loop s plain₀ i₀ plain i = (plain && all dataByte (drop i s)) ≡ all dataByte s
+
+abbrev μ-loop : tie.MeasureT-loop
+μ-loop s plain₀ i₀ plain i = length s - i
+
+loop-holds : tie.Need-loop-holds Inv-loop μ-loop
+loop-holds c = refl
+
+shared-slice-read-data-byte : tie.Need-shared-slice-read-data-byte Inv-loop μ-loop
+shared-slice-read-data-byte c = search needs
+
+data-byte-requires : tie.Need-data-byte-requires Inv-loop μ-loop
+data-byte-requires c κs = search needs
+
+add-i : tie.Need-add-i Inv-loop μ-loop
+add-i c = search needs
+
+loop-less : tie.Need-loop-less Inv-loop μ-loop
+loop-less c = omega arith
+
+loop-again : tie.Need-loop-again Inv-loop μ-loop
+loop-again c =
+    let turn = c .before .before in
+    all-more dataByte _ 0 _ (turn .before .loop .plain) _ (turn .loop-test .taken) (c .data-byte .ensures) (turn .before .loop .inv)
+
+returns : tie.Need-returns Inv-loop μ-loop
+returns c = all-end dataByte _ _ _ (c .loop-test .left) (c .before .loop .inv)
+
+pub is-plain-spec : {M : Type 1} → statement M
+is-plain-spec =
+    tie.close
+    (tie.spec
+    Inv-loop
+    μ-loop
+    loop-holds
+    shared-slice-read-data-byte
+    data-byte-requires
+    add-i
+    loop-less
+    loop-again
+    returns)

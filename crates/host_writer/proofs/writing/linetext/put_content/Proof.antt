@@ -1,0 +1,49 @@
+-- `host_writer::writing::linetext::put_content` meets its contract: five writes, one behind the other.
+-- Assumes nothing.
+use Rattle.laws.specs.Text.{text}
+use Rattle.buffer.proofs.Wrote.{_▸_, wrote-length}
+use Rattle.host_writer.proofs.Lines.{content-is}
+use borrow.Author.Needs.{needs}
+use Rattle.host_writer.proofs.writing.linetext.put_content.Statement.{statement}
+use Rattle.host_writer.proofs.writing.linetext.put_content.Tie as tie
+
+put-byte-requires : tie.Need-put-byte-requires
+put-byte-requires c κs = search needs
+
+put-two-requires : tie.Need-put-two-requires
+put-two-requires c κs = search needs
+
+put-byte-requires-2 : tie.Need-put-byte-requires-2
+put-byte-requires-2 c κs = search needs
+
+put-number-requires : tie.Need-put-number-requires
+put-number-requires c κs = search needs
+
+put-command-requires : tie.Need-put-command-requires
+put-command-requires c κs = search needs
+
+returns : tie.Need-returns
+unfolding text
+returns c =
+    let words = c .before .before in
+    let axis = words .before .before .before .before in
+    let gap = axis .before .before .before .before in
+    let address = gap .before .before .before .before in
+    let slash = address .before .before .before .before in
+    rw (← content-is _ _ _ _)
+    (slash .put-byte .ensures ▸ address .put-two .ensures ▸ gap .put-byte2 .ensures ▸ axis .put-number .ensures ▸ words .put-command .ensures)
+
+same-length : tie.Need-same-length
+same-length c = wrote-length (returns c)
+
+pub put-content-spec : {M : Type 1} → statement M
+put-content-spec =
+    tie.close
+    (tie.spec
+    put-byte-requires
+    put-two-requires
+    put-byte-requires-2
+    put-number-requires
+    put-command-requires
+    same-length
+    returns)

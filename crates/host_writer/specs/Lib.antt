@@ -1,0 +1,4 @@
+pub mod Rows
+pub mod Places
+pub mod Phrases
+pub mod Writing

@@ -1,0 +1,77 @@
+// The host's command writer: a command's line into a lent buffer, or a refusal that writes nothing.
+// The rules are in specs/Writing.antt; roundtrip/proofs/ReadsBack.antt shows that the device reads the line as the same command.
+ghost use mathlib.Core.Path.{_≡_};
+ghost use Rattle.laws.specs.Lists.{all};
+ghost use Rattle.host_reader.specs.Reading.{dataByte};
+ghost use Rattle.host_writer.specs.Writing.{unfit, unspellable, outcome, writeLine};
+use crate::Written;
+use crate::writing::linetext::put_line;
+use buffer::put_text;
+use command::Command;
+
+// Has every byte of s a place in a message?
+fn is_plain(s: &[u8]) -> bool
+    ensures { λ r. ⌜ r ≡ all dataByte (now (s .entry)) ⌝ }
+{
+    let mut plain = true;
+    let mut i: usize = 0;
+    while i < s.len() {
+        plain = plain & host_reader::data_byte(s[i]);
+        i += 1;
+    }
+    plain
+}
+
+fn is_unfit(c: Command, message: &[u8]) -> bool
+    ensures { λ r. ⌜ r ≡ unfit c (now (message .entry)) ⌝ }
+{
+    match c {
+        Command::Set(s, _) => s.read_only(),
+        Command::Echo => !is_plain(message),
+        _ => false,
+    }
+}
+
+fn is_unspellable(address: u64, axis: u64, c: Command, message: &[u8]) -> bool
+    ensures { λ r. ⌜ r ≡ unspellable address axis c (now (message .entry)) ⌝ }
+{
+    (99 < address) | (9 < axis) | is_unfit(c, message)
+}
+
+// The line is written into 81 bytes of its own first: where it ends beyond 80 there, it is too long, and the lent buffer
+// is still as it was. So no length is computed besides.
+pub fn write_command(
+    buf: &mut [u8],
+    address: u64,
+    axis: u64,
+    c: Command,
+    message: &[u8],
+    sum: bool,
+) -> Written
+    ensures { λ r. ⌜ outcome r (now (buf .exit)) ≡ writeLine address axis c (now (message .entry)) sum (now (buf .entry)) ⌝ }
+{
+    if buf.len() < 80 {
+        return Written {
+            number: 20,
+            length: 0,
+        };
+    }
+    if is_unspellable(address, axis, c, message) {
+        return Written {
+            number: 11,
+            length: 0,
+        };
+    }
+    let mut line = [0; 81];
+    let end = put_line(&mut line, address, axis, c, message, sum);
+    if 80 < end {
+        return Written {
+            number: 2,
+            length: 0,
+        };
+    }
+    let length = put_text(buf, 0, &line[..end]);
+    Written { number: 0, length }
+}
+
+mod linetext;

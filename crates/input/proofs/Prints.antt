@@ -1,0 +1,53 @@
+-- What a part is, by its first byte; and a reply's buffer that is printed.
+-- Assumes nothing.
+use mathlib.Core.Path.{_≡_, refl, sym, _∙_}
+use mathlib.Core.Logic.{⊎-elim}
+use mathlib.Core.Bool.{Bool, true, false, cond}
+use mathlib.Core.List.{List, [], _∷_}
+use Prim.Native.Nat.{ℕ, _≤_, _<_, min}
+use native.Mathlib.Omega.{arith}
+use lib.Dec.{eqb}
+use lib.ListN.{length, getD, take}
+use lib.Seq.{take-all}
+use borrow.Author.Tests.{eq-eqb, ne-eqb}
+use Rattle.laws.specs.Text.{text, same}
+use Rattle.laws.proofs.Order.{lt-or-le}
+use Rattle.buffer.specs.Wrote.{Wrote}
+use Rattle.input.specs.Prints.{isReport, told, answered}
+
+module _ (p : List ℕ) where
+  pub report-none : length p ≡ 0 → false ≡ isReport p
+  unfolding isReport same text
+  report-none h = go p h
+    where
+      go : (p : List ℕ) → length p ≡ 0 → false ≡ same (take 1 p) (text "R")
+      go [] h = refl
+      go (c ∷ p) h = absurd (omega arith)
+
+  pub report-first : (length p ≡ 0 → ⊥) → eqb (getD p 0 0) 82 ≡ isReport p
+  unfolding isReport same text
+  report-first h = go p h
+    where
+      both : (t : Bool) → t ≡ cond t true false
+      both true = refl
+      both false = refl
+
+      go : (p : List ℕ) → (length p ≡ 0 → ⊥) → eqb (getD p 0 0) 82 ≡ same (take 1 p) (text "R")
+      go [] h = absurd (h refl)
+      go (c ∷ p) h = both (eqb c 82)
+
+-- as many bytes as there are
+pub first-bytes : (n m : ℕ) (s : List ℕ) → n ≡ min m (length s) → take n s ≡ take m s
+first-bytes n m s e =
+    ⊎-elim (λ (h : length s < m). take-all n s (omega arith) ∙ sym (take-all m s (omega arith)))
+    (λ (h : m ≤ length s). let z : n ≡ m = omega arith in rw z)
+    (lt-or-le (length s) m)
+
+module _ (number long : ℕ) (s : List ℕ) {b o : List ℕ} {at r : ℕ} where
+  pub answer-silent : long ≡ 0 → Wrote b at (told (text "silent ") number) o r → Wrote b at (answered number long s) o r
+  unfolding answered
+  answer-silent h w = rw (eq-eqb long 0 h) w
+
+  pub answer-reply : (long ≡ 0 → ⊥) → {n : ℕ} → n ≡ min long (length s) → Wrote b at (take n s) o r → Wrote b at (answered number long s) o r
+  unfolding answered
+  answer-reply h {n} e w = rw (ne-eqb long 0 h, ← first-bytes n long s e) w

@@ -1,0 +1,3 @@
+pub mod Parts
+pub mod Prints
+pub mod ReportLines

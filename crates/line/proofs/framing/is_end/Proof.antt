@@ -1,0 +1,17 @@
+-- CR, or LF, or neither.
+-- Assumes nothing.
+use Rattle.line.specs.Reading.{isEnd}
+use borrow.Author.Tests.{eq-eqb, ne-eqb}
+use Rattle.line.proofs.framing.is_end.Statement.{statement}
+use Rattle.line.proofs.framing.is_end.Tie as tie
+
+returns : tie.Need-returns
+unfolding isEnd
+returns c = rw (eq-eqb _ _ (c .if1 .taken))
+
+returns-2 : tie.Need-returns-2
+unfolding isEnd
+returns-2 c = rw (ne-eqb _ _ (c .if1 .left))
+
+pub is-end-spec : {M : Type 1} → statement M
+is-end-spec = tie.close (tie.spec returns returns-2)

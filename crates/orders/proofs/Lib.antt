@@ -1,2 +1,0 @@
-pub mod GoodStays
-pub mod OnlyShows

@@ -1,0 +1,29 @@
+-- A name is looked up in the table of settings.
+-- Assumes nothing.
+use mathlib.Core.Path.{_∙_}
+use Rattle.laws.specs.Text.{text}
+use Rattle.words.specs.Cutting.{cut, isSpace, noSpace, grow}
+use Rattle.command.specs.Settings.{nameOf}
+use Rattle.phrase.specs.Reading.{names, readSetting}
+use Rattle.phrase.specs.declared.SettingRead.the-variants.{Unknown}
+use Rattle.words.proofs.Table.{meaning-at}
+use borrow.Author.Needs.{needs}
+use Rattle.phrase.proofs.operand.read_setting.Statement.{statement}
+use Rattle.phrase.proofs.operand.read_setting.Tie as tie
+
+slice-aggregate-find-word : tie.Need-slice-aggregate-find-word
+slice-aggregate-find-word c = search needs
+
+find-word-requires : tie.Need-find-word-requires
+find-word-requires c κs = search needs
+
+setting-at-requires : tie.Need-setting-at-requires
+setting-at-requires c κs = search needs
+
+returns : tie.Need-returns
+unfolding readSetting nameOf cut isSpace noSpace grow text
+returns c = c .setting-at .ensures ∙ meaning-at Unknown _ names _ (c .before .find-word .ensures)
+
+pub read-setting-spec : {M : Type 1} → statement M
+read-setting-spec =
+    tie.close (tie.spec slice-aggregate-find-word find-word-requires setting-at-requires returns)

@@ -1,0 +1,31 @@
+-- Each word that may follow `tools`, by its place; beyond the table, 10.
+-- Assumes nothing.
+use Rattle.phrase.specs.Reading.{tools}
+use Rattle.laws.proofs.Order.{beyond}
+use Rattle.words.proofs.Table.{past-table}
+use borrow.Author.Needs.{needs}
+use Rattle.phrase.proofs.toolwords.tool_at.Statement.{statement}
+use Rattle.phrase.proofs.toolwords.tool_at.Tie as tie
+
+read-storepos-requires : tie.Need-read-storepos-requires
+read-storepos-requires c κs = search needs
+
+read-parking-requires : tie.Need-read-parking-requires
+read-parking-requires c κs = search needs
+
+returns : tie.Need-returns
+returns c = rw (c .before .match .keys1) (c .read-storepos .ensures)
+
+returns-2 : tie.Need-returns-2
+returns-2 c = rw (c .before .match .keys2) (c .read-parking .ensures)
+
+returns-3 : tie.Need-returns-3
+returns-3 c = rw (c .match .keys3)
+
+returns-4 : tie.Need-returns-4
+returns-4 c = past-table _ (tools _) _ (beyond 3 (c .before .before .args .k) (c .match .rest))
+
+pub tool-at-spec : {M : Type 1} → statement M
+tool-at-spec =
+    tie.close
+    (tie.spec read-storepos-requires read-parking-requires returns returns-2 returns-3 returns-4)

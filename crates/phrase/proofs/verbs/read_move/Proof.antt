@@ -1,0 +1,42 @@
+-- The word behind `move` is looked up in its table.
+-- Assumes nothing.
+use Rattle.laws.specs.Text.{text}
+use Rattle.words.specs.Cutting.{cut, isSpace, noSpace, grow}
+use Rattle.phrase.specs.Reading.{moves, readMove}
+use Rattle.phrase.specs.declared.WordsRead.the-variants.{Refused}
+use Rattle.phrase.proofs.Steps.{looked-up}
+use borrow.Author.Needs.{needs}
+use Rattle.phrase.proofs.verbs.read_move.Statement.{statement}
+use Rattle.phrase.proofs.verbs.read_move.Tie as tie
+
+first-word-requires : tie.Need-first-word-requires
+first-word-requires c κs = search needs
+
+slice-aggregate-find-word : tie.Need-slice-aggregate-find-word
+slice-aggregate-find-word c = search needs
+
+find-word-requires : tie.Need-find-word-requires
+find-word-requires c κs = search needs
+
+past-word-requires : tie.Need-past-word-requires
+past-word-requires c κs = search needs
+
+move-at-requires : tie.Need-move-at-requires
+move-at-requires c κs = search needs
+
+returns : tie.Need-returns
+unfolding readMove cut isSpace noSpace grow text
+returns c =
+    looked-up moves (Refused 10) _ _ _ _ (c .before .before .before .before .first-word .ensures) (c .before .past-word .ensures .1)
+    (c .before .before .find-word .ensures) (c .move-at .ensures)
+
+pub read-move-spec : {M : Type 1} → statement M
+read-move-spec =
+    tie.close
+    (tie.spec
+    first-word-requires
+    slice-aggregate-find-word
+    find-word-requires
+    past-word-requires
+    move-at-requires
+    returns)

@@ -1,0 +1,80 @@
+// Reads the words behind `move`, `get` and `set`.
+// The rules are in specs/Reading.antt.
+ghost use mathlib.Core.Path.{_≡_};
+ghost use lib.ListN.{drop};
+ghost use Rattle.words.specs.Cutting.{cut};
+ghost use Rattle.words.specs.Find.{entryAt};
+ghost use Rattle.phrase.specs.declared.WordsRead.the-variants.{Refused};
+ghost use Rattle.phrase.specs.Reading.{moves, readMove, getOf, readGet, setOf, readSet};
+use crate::Numbered;
+use crate::SettingRead;
+use crate::WordsRead;
+use crate::operand::ended_at;
+use crate::operand::one_number;
+use crate::operand::read_setting;
+use command::Command;
+use command::Target;
+
+// Behind `move` and the word at place k of those that may follow it.
+fn move_at(k: usize, s: &[u8], at: usize) -> WordsRead
+    ensures { λ r. ⌜ r ≡ entryAt (Refused 10) k (moves (cut (drop at (now (s .entry))))) ⌝ }
+{
+    match k {
+        0 => one_number(s, at, Numbered::MoveAbs),
+        1 => one_number(s, at, Numbered::MoveRel),
+        2 => one_number(s, at, Numbered::MoveVel),
+        3 => ended_at(s, at, Command::MoveTo(Target::Min)),
+        4 => ended_at(s, at, Command::MoveTo(Target::Max)),
+        5 => one_number(s, at, Numbered::MoveStored),
+        _ => WordsRead::Refused(10),
+    }
+}
+
+// The words behind `move`.
+pub fn read_move(s: &[u8], at: usize) -> WordsRead
+    ensures { λ r. ⌜ r ≡ readMove (cut (drop at (now (s .entry)))) ⌝ }
+{
+    let k = words::find_word(words::first_word(s, at), b"abs rel vel min max stored");
+    move_at(k, s, words::past_word(s, at))
+}
+
+// Behind `get` and the name of x.
+fn get_of(s: &[u8], at: usize, x: SettingRead) -> WordsRead
+    ensures { λ r. ⌜ r ≡ getOf x (cut (drop at (now (s .entry)))) ⌝ }
+{
+    match x {
+        SettingRead::Unknown => WordsRead::Refused(10),
+        SettingRead::Is(t) => ended_at(s, at, Command::Get(t)),
+    }
+}
+
+// The words behind `get`.
+pub fn read_get(s: &[u8], at: usize) -> WordsRead
+    ensures { λ r. ⌜ r ≡ readGet (cut (drop at (now (s .entry)))) ⌝ }
+{
+    let x = read_setting(words::first_word(s, at));
+    get_of(s, words::past_word(s, at), x)
+}
+
+// Behind `set` and the name of x.
+fn set_of(s: &[u8], at: usize, x: SettingRead) -> WordsRead
+    ensures { λ r. ⌜ r ≡ setOf x (cut (drop at (now (s .entry)))) ⌝ }
+{
+    match x {
+        SettingRead::Unknown => WordsRead::Refused(10),
+        SettingRead::Is(t) => {
+            if t.read_only() {
+                return WordsRead::Refused(10);
+            }
+            one_number(s, at, Numbered::SetTo(t))
+        }
+    }
+}
+
+// The words behind `set`.
+pub fn read_set(s: &[u8], at: usize) -> WordsRead
+    ensures { λ r. ⌜ r ≡ readSet (cut (drop at (now (s .entry)))) ⌝ }
+{
+    let x = read_setting(words::first_word(s, at));
+    set_of(s, words::past_word(s, at), x)
+}

@@ -1,0 +1,73 @@
+-- `reply::data::put_warnings` meets its contract. Invariant: what the loop has written, with the names that are left, is the whole.
+-- Assumes nothing.
+use borrow.Author.Needs.{needs}
+use Prim.Native.Nat.{_≤_, _-_}
+use native.Mathlib.Omega.{arith}
+use lib.ListN.{drop}
+use Rattle.laws.proofs.Spaced.{trail}
+use Rattle.flags.specs.Flags.{bits, named, warningNames}
+use Rattle.buffer.proofs.Wrote.{_▸_, wrote-length}
+use Rattle.reply.proofs.Writing.{Writing, writing-first, writing-end}
+use Rattle.reply.proofs.Lists.{list-split, names-turn, names-end}
+use Rattle.reply.proofs.data.put_warnings.Statement.{statement}
+use Rattle.reply.proofs.data.put_warnings.Tie as tie
+
+abbrev Inv-loop : tie.InvT-loop
+Inv-loop buf₀ at m next₀ left₀ i₀ buf next left i =
+    (i ≤ 8) × Writing buf₀ next₀ (trail (named (bits 8 m) warningNames)) (named (bits (8 - i) left) (drop i warningNames)) buf next
+
+abbrev μ-loop : tie.MeasureT-loop
+μ-loop buf₀ at m next₀ left₀ i₀ buf next left i = 8 - i
+
+number-requires : tie.Need-number-requires Inv-loop μ-loop
+number-requires c κs = search needs
+
+cast-put-two : tie.Need-cast-put-two Inv-loop μ-loop
+cast-put-two c = search needs
+
+put-two-requires : tie.Need-put-two-requires Inv-loop μ-loop
+put-two-requires c κs = search needs
+
+loop-holds : tie.Need-loop-holds Inv-loop μ-loop
+loop-holds c = (omega arith, writing-first _ _ _)
+
+put-if-requires : tie.Need-put-if-requires Inv-loop μ-loop
+put-if-requires c κs = search needs
+
+add-i : tie.Need-add-i Inv-loop μ-loop
+add-i c = omega arith
+
+loop-less : tie.Need-loop-less Inv-loop μ-loop
+loop-less c = omega arith
+
+loop-again : tie.Need-loop-again Inv-loop μ-loop
+loop-again c =
+    let name = c .before .before in
+    let turn = name .before .before in
+    (omega arith, names-turn _ _ (turn .loop-test .taken) (turn .before .loop .inv .1) (name .put-if .ensures))
+
+returns : tie.Need-returns Inv-loop μ-loop
+returns c =
+    let two = c .before .before .before .before in
+    rw (list-split _, ← two .before .number .ensures)
+    (two .put-two .ensures ▸ writing-end (rw (names-end _ _ (c .loop-test .left)) at (c .before .loop .inv .1)))
+
+same-length : tie.Need-same-length Inv-loop μ-loop
+same-length c = wrote-length (returns c)
+
+pub put-warnings-spec : {M : Type 1} → statement M
+put-warnings-spec =
+    tie.close
+    (tie.spec
+    Inv-loop
+    μ-loop
+    number-requires
+    cast-put-two
+    put-two-requires
+    loop-holds
+    put-if-requires
+    add-i
+    loop-less
+    loop-again
+    same-length
+    returns)

@@ -1,0 +1,113 @@
+// Writes a reply's data into a lent buffer: values, the list of warnings, the words of an echo, a refusal's name.
+// specs/Data.antt says each of these texts; specs/Parts.antt those of the inner writers.
+ghost use mathlib.Core.Path.{_≡_};
+ghost use Prim.Native.Nat.{_+_, _≤_, min};
+ghost use lib.Dec.{eqb};
+ghost use lib.ListN.{length, take, drop};
+ghost use Rattle.words.specs.Cutting.{cut};
+ghost use Rattle.buffer.specs.Wrote.{Wrote};
+ghost use Rattle.reply.specs.Data.{warningList, echoed, refusalName};
+ghost use Rattle.reply.specs.Parts.{warningAt, nameIf, wordIf};
+use buffer::put_byte;
+use buffer::put_text;
+use buffer::put_two;
+
+// The lesser of two.
+pub fn lesser(a: usize, b: usize) -> usize
+    ensures { λ r. ⌜ r ≡ min a b ⌝ }
+{
+    if a < b { a } else { b }
+}
+
+// The two bytes from a place on.
+fn two_from(s: &[u8], start: usize) -> &[u8]
+    requires { ⌜ start + 2 ≤ length (now s) ⌝ }
+    ensures { λ r. ⌜ now r ≡ take 2 (drop start (now (s .entry))) ⌝ }
+{
+    let end = start + 2;
+    &s[start..end]
+}
+
+// The name of the warning at a place from 0, or `--`: two letters, and a space between two names.
+pub fn put_warning(buf: &mut [u8], at: usize, place: u32) -> usize
+    ensures { λ r. ⌜ Wrote (now (buf .entry)) at (warningAt place) (now (buf .exit)) r ⌝ }
+{
+    let k = lesser(place as usize, 8);
+    put_text(buf, at, two_from(b"FD FQ FS FT FB FP FE WR --", 3 * k))
+}
+
+// The name of a refusal that is replied; no other number has one.
+pub fn put_refusal(buf: &mut [u8], at: usize, number: u8) -> usize
+    ensures { λ r. ⌜ Wrote (now (buf .entry)) at (refusalName number) (now (buf .exit)) r ⌝ }
+{
+    if number < 10 {
+        return at;
+    }
+    let k = number as usize - 10;
+    put_text(
+        buf,
+        at,
+        words::nth_word(
+            b"BADCOMMAND BADDATA BADAXIS DEVICEONLY NOACCESS PARKED STATUSBUSY",
+            k,
+        ),
+    )
+}
+
+// The number of warnings that a mask has, and their names.
+pub fn put_warnings(buf: &mut [u8], at: usize, m: u32) -> usize
+    ensures { λ r. ⌜ Wrote (now (buf .entry)) at (warningList m) (now (buf .exit)) r ⌝ }
+{
+    let mut next = put_two(buf, at, flags::number(m) as u64);
+    let mut left = m;
+    let mut i: u32 = 0;
+    while i < 8 {
+        next = put_if(buf, next, left % 2, i);
+        left = left / 2;
+        i += 1;
+    }
+    next
+}
+
+// A warning's name behind a space, if its bit is 1.
+fn put_if(buf: &mut [u8], at: usize, bit: u32, place: u32) -> usize
+    ensures { λ r. ⌜ Wrote (now (buf .entry)) at (nameIf (eqb bit 1) place) (now (buf .exit)) r ⌝ }
+{
+    if bit == 1 {
+        let next = put_byte(buf, at, b' ');
+        put_warning(buf, next, place)
+    } else {
+        at
+    }
+}
+
+// A word behind a space, if there is one.
+fn put_word(buf: &mut [u8], at: usize, w: &[u8]) -> usize
+    ensures { λ r. ⌜ Wrote (now (buf .entry)) at (wordIf (now (w .entry))) (now (buf .exit)) r ⌝ }
+{
+    if w.len() == 0 {
+        at
+    } else {
+        let next = put_byte(buf, at, b' ');
+        put_text(buf, next, w)
+    }
+}
+
+// The first 17 words from a place of s on.
+pub fn put_echo(buf: &mut [u8], at: usize, s: &[u8], from: usize) -> usize
+    ensures { λ r. ⌜ Wrote (now (buf .entry)) at (echoed (cut (drop from (now (s .entry))))) (now (buf .exit)) r ⌝ }
+{
+    let first = words::first_word(s, from);
+    if first.len() == 0 {
+        return put_byte(buf, at, b'0');
+    }
+    let mut next = put_text(buf, at, first);
+    let mut place = words::past_word(s, from);
+    let mut left: usize = 16;
+    while (0 < left) & (place < s.len()) {
+        next = put_word(buf, next, words::first_word(s, place));
+        place = words::past_word(s, place);
+        left -= 1;
+    }
+    next
+}

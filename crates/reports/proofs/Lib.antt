@@ -1,2 +1,0 @@
-pub mod MotorReports
-pub mod GoodStays

@@ -1,0 +1,11 @@
+pub mod WrittenWords
+pub mod Rows
+pub mod ReadsBack
+pub mod WrittenIsSpelled
+pub mod Cases
+pub mod Texts
+pub mod Rejecting
+pub mod ReadWords
+pub mod Shown
+pub mod Place
+pub mod ReplyReadsBack

@@ -1,3 +1,0 @@
-pub mod Rows
-pub mod Places
-pub mod Phrases

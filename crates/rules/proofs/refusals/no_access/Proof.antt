@@ -1,0 +1,22 @@
+-- The access that there is and the access that it takes.
+-- Assumes nothing.
+use Rattle.rules.specs.Refusals.{noAccess}
+use borrow.Author.Needs.{needs}
+use Rattle.rules.proofs.refusals.no_access.Statement.{statement}
+use Rattle.rules.proofs.refusals.no_access.Tie as tie
+
+place-requires : tie.Need-place-requires
+place-requires c κs = search needs
+
+of-requires : tie.Need-of-requires
+of-requires c κs = search needs
+
+cast-result : tie.Need-cast-result
+cast-result c = search needs
+
+returns : tie.Need-returns
+unfolding noAccess
+returns c = simp (c .before .of .ensures, c .before .before .place .ensures)
+
+pub no-access-spec : {M : Type 1} → statement M
+no-access-spec = tie.close (tie.spec place-requires of-requires cast-result returns)

@@ -1,0 +1,4 @@
+pub mod Types
+pub mod Refusals
+pub mod Effects
+pub mod Reports

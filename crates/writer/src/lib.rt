@@ -1,8 +1,0 @@
-// What the command writer answers, as a type. The code that writes stands in the crate above, sender.
-// specs/Writing.antt says the line.
-
-// A refusal's number and length 0, or 0 and the line's length.
-pub struct Written {
-    pub number: u8,
-    pub length: usize,
-}
