@@ -49,7 +49,8 @@ module _ (t : Target) (a : Axis) where
   may-not = beyond-false (mayMoveTo t a) (position (target t a))
 
 -- and where it goes
-goes : (b : Bool) (a : Axis) (p q : Position) → cond b (Reach.At p) Reach.Beyond ≡ Reach.At q → withMotion (To q) a ≡ cond b (withMotion (To p) a) a
+goes : (b : Bool) (a : Axis) (p q : Position) → cond b (Reach.At p) Reach.Beyond ≡ Reach.At q
+    → withMotion (To q) a ≡ cond b (withMotion (To p) a) a
 goes true a p q e = let h : q ≡ p = cc in ap (λ (x : Position). withMotion (To x) a) h
 goes false a p q e = let z : _≡_ {A = ℕ} 0 1 = cc in absurd (omega arith)
 

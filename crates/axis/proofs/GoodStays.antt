@@ -69,19 +69,24 @@ module _ (a : Axis) (good : goodAxis a ≡ true) where
   unfolding moved mayMoveTo
   moved-good t =
       choose goodAxis (mayMoveTo t a) (withMotion (To (position (target t a))) a) a
-      (λ h. with-motion (To (position (target t a))) (between-bound (target t a) (and-right (a .reference) (between a (target t a)) (and-right (exists t) (a .reference && between a (target t a)) h)))) (λ h. good)
+      (λ h. with-motion (To (position (target t a)))
+      (between-bound (target t a) (and-right (a .reference) (between a (target t a))
+      (and-right (exists t) (a .reference && between a (target t a)) h)))) (λ h. good)
 
   pub run-good : (v : Speed) → mayRunAt v a ≡ true → goodAxis (withMotion (At v) a) ≡ true
   unfolding mayRunAt
   run-good v h =
       let m = below-most (pos 1) (pos 1000000000) (maxSpeed a) (one (inRange (a .settings)) settings-good MaxSpeed) in
-      with-motion (At v) (wider (minus 1000000000) (pos 1000000000) (negℤ (maxSpeed a)) (maxSpeed a) (v .0) (opposite (maxSpeed a) 999999999 m) m h)
+      with-motion (At v) (wider (minus 1000000000) (pos 1000000000) (negℤ (maxSpeed a)) (maxSpeed a) (v .0)
+      (opposite (maxSpeed a) 999999999 m) m h)
 
   pub store-good : (n : Number) (p : Position) → mayStore n p a ≡ true → goodAxis (store n p a) ≡ true
   unfolding store mayStore
   store-good n p h =
       choose goodAxis (isPlace n) (withStored (set (a .stored) (place (n .0) - 1) p) a) a
-      (λ e. whole (withStored (set (a .stored) (place (n .0) - 1) p) a) settings-good (all-set goodPosition (a .stored) (place (n .0) - 1) p (between-bound (p .0) (and-right (isPlace n) (between a (p .0)) h)) stored-good) motion-good) (λ e. good)
+      (λ e. whole (withStored (set (a .stored) (place (n .0) - 1) p) a) settings-good
+      (all-set goodPosition (a .stored) (place (n .0) - 1) p
+      (between-bound (p .0) (and-right (isPlace n) (between a (p .0)) h)) stored-good) motion-good) (λ e. good)
 
   pub stopped-good : goodAxis (stopped a) ≡ true
   unfolding stopped

@@ -16,10 +16,12 @@ module _ (a : Axis) (good : goodAxis a ≡ true) where
   raised-good : (n : Number) → goodAxis (raised n a) ≡ true
   unfolding raised
   raised-good n =
-      choose goodAxis (isWarning n) (withWarnings (raise (place (n .0)) (a .warnings)) a) a (λ h. with-warnings a good (raise (place (n .0)) (a .warnings))) (λ h. good)
+      choose goodAxis (isWarning n) (withWarnings (raise (place (n .0)) (a .warnings)) a) a
+      (λ h. with-warnings a good (raise (place (n .0)) (a .warnings))) (λ h. good)
 
   placed-good : (p : Position) (m : Motion) (r : Bool) → within bound (p .0) ≡ true → goodMotion m ≡ true → goodAxis (placed p m r a) ≡ true
-  placed-good p m r h g = whole (placed p m r a) (put-good (number (p .0)) (a .settings) (settings-good a good) Pos h) (stored-good a good) g
+  placed-good p m r h g = whole (placed p m r a) (put-good (number (p .0)) (a .settings) (settings-good a good) Pos h)
+      (stored-good a good) g
 
   pub reported-good : (r : Report) → takes r a ≡ true → goodAxis (reported r a) ≡ true
   reported-good (MovingAt p) h = placed-good p (a .motion) (a .reference) (and-left (within bound (p .0)) (moving a) h) (motion-good a good)

@@ -47,7 +47,8 @@ laid-out t b at h =
     rw (take-all at b h, none, drop-of-length-le b past) (simp append-nil)
 
 sets-laid : (t b : List ℕ) (at : ℕ) → sets b at t ≡ laid b at t
-sets-laid [] b at = let e : fitting b at [] ≡ [] = take-all (length b - at) [] (omega arith) in rw (e, add-zero, append-nil) (sym (take-append-drop at b))
+sets-laid [] b at = let e : fitting b at [] ≡ [] = take-all (length b - at) [] (omega arith) in
+    rw (e, add-zero, append-nil) (sym (take-append-drop at b))
 sets-laid (x ∷ t) b at =
     ⊎-elim
     (λ (h : at < length b).

@@ -48,12 +48,12 @@ module _ (d : Device) (r : LineRead) (b : List ℕ) (e : silence d r b ≡ 0) wh
   unfolding silence
   room = below 19 (ltb (length b) 96) (21 when not (good d) ∷ read) e
 
-  heard-good : good d ≡ true
-  heard-good = not-false (good d) (unmet 20 (not (good d)) read room)
+  read-good : good d ≡ true
+  read-good = not-false (good d) (unmet 20 (not (good d)) read room)
 
-  heard-number : unread r ≡ 0
+  read-number : unread r ≡ 0
   unfolding firstOf
-  heard-number = go (unread r) (eqb (unread r) 0) refl (below 20 (not (good d)) read room)
+  read-number = go (unread r) (eqb (unread r) 0) refl (below 20 (not (good d)) read room)
     where
       go : (n : ℕ) (t : Bool) → eqb n 0 ≡ t → cond (not t) n (cond (notMine d r) 5 0) ≡ 0 → n ≡ 0
       go n true q h = eqb-true n 0 q
@@ -76,7 +76,8 @@ module _ (P : Stepped → Type 0) (Q : ℕ → Type 0) (d : Device) (l b : List 
   unfolding obeyed
   obeys k skip c g = go (eqb (refusal d k c) 0) refl
     where
-      go : (t : Bool) → eqb (refusal d k c) 0 ≡ t → P (cond t (accepted d k (echoOf c (drop skip (wordsOf l))) c b) (rejected (refusal d k c) d k b))
+      go : (t : Bool) → eqb (refusal d k c) 0 ≡ t
+          → P (cond t (accepted d k (echoOf c (drop skip (wordsOf l))) c b) (rejected (refusal d k c) d k b))
       go true e = done k skip c g (eqb-true (refusal d k c) 0 e)
       go false e = refused (refusal d k c) k (device k c (eqb-false (refusal d k c) 0 e)) g
 
@@ -89,10 +90,11 @@ module _ (P : Stepped → Type 0) (Q : ℕ → Type 0) (d : Device) (l b : List 
   unfolding step respond
   each-answer h = go (eqb (silence d (readLine l) b) 0) refl
     where
-      go : (t : Bool) → eqb (silence d (readLine l) b) 0 ≡ t → P (cond t (answered d (wordsOf l) (readLine l) b) (silent (silence d (readLine l) b) d b))
+      go : (t : Bool) → eqb (silence d (readLine l) b) 0 ≡ t
+          → P (cond t (answered d (wordsOf l) (readLine l) b) (silent (silence d (readLine l) b) d b))
       go true e =
           let z = eqb-true (silence d (readLine l) b) 0 e in
-          answers (readLine l) h (heard-good d (readLine l) b z) (rw (heard-number d (readLine l) b z, ← z) quiet)
+          answers (readLine l) h (read-good d (readLine l) b z) (rw (read-number d (readLine l) b z, ← z) quiet)
       go false e = quiet
 
 -- the same, whatever the numbers are
@@ -101,15 +103,19 @@ any-number (Silent n) = tt
 any-number (Addressed n k skip (Words.Command c)) = tt
 any-number (Addressed n k skip (Words.Refused m)) = tt
 
-pub every-answer : (P : Stepped → Type 0) (d : Device) (l b : List ℕ) → P (silent (silence d (readLine l) b) d b) → ((n k : ℕ) → good d ≡ true → P (rejected n d k b))
-    → ((k skip : ℕ) (c : Command) → good d ≡ true → refusal d k c ≡ 0 → P (accepted d k (echoOf c (drop skip (wordsOf l))) c b)) → P (step d l b)
-every-answer P d l b quiet refused done = each-answer P (λ n. Unit) d l b quiet (λ n k u g. refused n k g) done (λ k c h. tt) (any-number (readLine l))
+pub every-answer : (P : Stepped → Type 0) (d : Device) (l b : List ℕ) → P (silent (silence d (readLine l) b) d b)
+    → ((n k : ℕ) → good d ≡ true → P (rejected n d k b))
+    → ((k skip : ℕ) (c : Command) → good d ≡ true → refusal d k c ≡ 0 → P (accepted d k (echoOf c (drop skip (wordsOf l))) c b))
+    → P (step d l b)
+every-answer P d l b quiet refused done = each-answer P (λ n. Unit) d l b quiet (λ n k u g. refused n k g) done (λ k c h. tt)
+    (any-number (readLine l))
 
 -- A refusal, silent or replied, leaves the record as it was.
 pub refusal-keeps-the-record : (d : Device) (l b : List ℕ) → (step d l b .answer .number ≡ 0 → ⊥) → step d l b .answer .next ≡ d
 unfolding silent rejected accepted written
 refusal-keeps-the-record d l b =
-    every-answer (λ s. (s .answer .number ≡ 0 → ⊥) → s .answer .next ≡ d) d l b (λ h. refl) (λ n k g h. refl) (λ k skip c g e h. absurd (h refl))
+    every-answer (λ s. (s .answer .number ≡ 0 → ⊥) → s .answer .next ≡ d) d l b (λ h. refl) (λ n k g h. refl)
+    (λ k skip c g e h. absurd (h refl))
 
 -- On a good record the next record is good.
 pub good-goes-on : (d : Device) (l b : List ℕ) → length (d .axes) ≡ 4 → good d ≡ true → good (step d l b .answer .next) ≡ true
@@ -127,8 +133,14 @@ pub record Behind (b : List ℕ) (s : Stepped) : Type 0 where
 pub keeps-behind : (d : Device) (l b : List ℕ) → Behind b (step d l b)
 unfolding silent rejected accepted written
 keeps-behind d l b =
-    every-answer (Behind b) d l b (record { text = []; long = refl; left = refl }) (λ n k g. record { text = replyOf d k false (refusalName n); long = refl; left = refl })
-    (λ k skip c g e. record { text = replyOf (next d k c) k true (dataOf d k (echoOf c (drop skip (wordsOf l))) c); long = refl; left = refl })
+    every-answer (Behind b) d l b (record { text = []; long = refl; left = refl })
+    (λ n k g. record { text = replyOf d k false (refusalName n); long = refl; left = refl })
+    (λ k skip c g e. record {
+      text = replyOf (next d k c) k true
+          (dataOf d k (echoOf c (drop skip (wordsOf l))) c);
+      long = refl;
+      left = refl;
+    })
 
 -- "A reply describes the record after the command": what stands in the buffer is a reply of the next record, so that its address,
 -- its status, its highest warning and whether it has a sum are the next record's.
@@ -142,7 +154,8 @@ pub reply-describes-next : (d : Device) (l b : List ℕ) → (step d l b .answer
 unfolding silent rejected accepted written
 reply-describes-next d l b =
     every-answer (λ s. (s .answer .length ≡ 0 → ⊥) → Describes s) d l b (λ h. absurd (h refl))
-    (λ n k g h. let t : List ℕ = replyOf d k false (refusalName n) in record { axis = k; ok = false; words = refusalName n; reply = take-at t (drop (length t) b) (length t) refl })
+    (λ n k g h. let t : List ℕ = replyOf d k false (refusalName n) in
+    record { axis = k; ok = false; words = refusalName n; reply = take-at t (drop (length t) b) (length t) refl })
     (λ k skip c g e h.
     let shows : List ℕ = dataOf d k (echoOf c (drop skip (wordsOf l))) c in
     let t : List ℕ = replyOf (next d k c) k true shows in

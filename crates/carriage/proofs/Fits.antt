@@ -83,7 +83,8 @@ module _ (a : Axis) (good : goodAxis a ≡ true) where
   ranged = one (inRange s) (settings-good a good)
 
   most-current : (z : ℤ) → within (pos 0 to s .current .max .0) z ≡ true → within (pos 0 to pos 255) z ≡ true
-  most-current z e = wider (pos 0) (pos 255) (pos 0) (s .current .max .0) z refl (below-most (pos 0) (pos 255) (s .current .max .0) (ranged Axis.DriverCurrentMax)) e
+  most-current z e = wider (pos 0) (pos 255) (pos 0) (s .current .max .0) z refl
+      (below-most (pos 0) (pos 255) (s .current .max .0) (ranged Axis.DriverCurrentMax)) e
 
   setting-short : (x : AxisSetting) → Short (value x s)
   setting-short Axis.Pos = short-bound (s .pos .0) (ranged Axis.Pos)
@@ -95,13 +96,17 @@ module _ (a : Axis) (good : goodAxis a ≡ true) where
       short-bound (s .limit .max .0)
       (wider (minus 1000000000) (pos 1000000000) (s .limit .min .0) (pos 1000000000) (s .limit .max .0)
       (above-least (minus 1000000000) (s .limit .max .0) (s .limit .min .0) (ranged Axis.LimitMin)) refl (ranged Axis.LimitMax))
-  setting-short Axis.MaxSpeed = short-in (pos 1) (pos 1000000000) (s .maxspeed .0) (above 1 (omega arith)) (above 1000000000 (omega arith)) (ranged Axis.MaxSpeed)
+  setting-short Axis.MaxSpeed = short-in (pos 1) (pos 1000000000) (s .maxspeed .0) (above 1 (omega arith)) (above 1000000000 (omega arith))
+      (ranged Axis.MaxSpeed)
   setting-short Axis.Accel = short-up 32767 (s .accel .0) (omega arith) (ranged Axis.Accel)
   setting-short Axis.DriverCurrentMax = short-up 255 (s .current .max .0) (omega arith) (ranged Axis.DriverCurrentMax)
-  setting-short Axis.DriverCurrentRun = short-up 255 (s .current .run .0) (omega arith) (most-current (s .current .run .0) (ranged Axis.DriverCurrentRun))
-  setting-short Axis.DriverCurrentHold = short-up 255 (s .current .hold .0) (omega arith) (most-current (s .current .hold .0) (ranged Axis.DriverCurrentHold))
+  setting-short Axis.DriverCurrentRun = short-up 255 (s .current .run .0) (omega arith)
+      (most-current (s .current .run .0) (ranged Axis.DriverCurrentRun))
+  setting-short Axis.DriverCurrentHold = short-up 255 (s .current .hold .0) (omega arith)
+      (most-current (s .current .hold .0) (ranged Axis.DriverCurrentHold))
   setting-short Axis.DriverDir = short-up 1 (s .dir .0) (omega arith) (ranged Axis.DriverDir)
-  setting-short Axis.EncoderIndexCount = short-in (minus 32768) (pos 32767) (s .index .0) (below 32767 (omega arith)) (above 32767 (omega arith)) (ranged Axis.EncoderIndexCount)
+  setting-short Axis.EncoderIndexCount = short-in (minus 32768) (pos 32767) (s .index .0) (below 32767 (omega arith))
+      (above 32767 (omega arith)) (ranged Axis.EncoderIndexCount)
 
   -- any element of a list that passes, or the one beyond its end
   some-position : (ps : List Position) (i : ℕ) → all goodPosition ps ≡ true → goodPosition (getD ps i (position (pos 0))) ≡ true
@@ -115,7 +120,8 @@ module _ (a : Axis) (good : goodAxis a ≡ true) where
   stored-short n = go (isPlace n)
     where
       go : (t : Bool) → length (decimal (cond t (getD (a .stored) (place (n .0) - 1) (position (pos 0))) (position (pos 0)) .0)) ≤ 11
-      go true = short-bound (getD (a .stored) (place (n .0) - 1) (position (pos 0)) .0) (some-position (a .stored) (place (n .0) - 1) (stored-good a good))
+      go true = short-bound (getD (a .stored) (place (n .0) - 1) (position (pos 0)) .0)
+          (some-position (a .stored) (place (n .0) - 1) (stored-good a good))
       go false = short-bound (pos 0) refl
 
   pub value-short : (v : Value) → Short (valueIn v a)
@@ -124,7 +130,8 @@ module _ (a : Axis) (good : goodAxis a ≡ true) where
   value-short Value.Pos = setting-short Axis.Pos
 
 -- ---- the values of the axes that a number means
-each-of : {X Y : Type 0} (p : X → Bool) (Q : Y → Type 0) (f : X → Y) → ((x : X) → p x ≡ true → Q (f x)) → (xs : List X) → all p xs ≡ true → Each Q (map f xs)
+each-of : {X Y : Type 0} (p : X → Bool) (Q : Y → Type 0) (f : X → Y) → ((x : X) → p x ≡ true → Q (f x)) → (xs : List X) → all p xs ≡ true
+    → Each Q (map f xs)
 unfolding fold
 each-of p Q f h [] e = none
 each-of p Q f h (x ∷ xs) e = more {x = f x} (h x (and-left (p x) (all p xs) e)) (each-of p Q f h xs (and-right (p x) (all p xs) e))
@@ -134,7 +141,10 @@ unfolding fold
 all-front p zero m xs h e = refl
 all-front p (suc n) zero xs h e = absurd (omega arith)
 all-front p (suc n) (suc m) [] h e = refl
-all-front p (suc n) (suc m) (x ∷ xs) h e = simp (and-left (p x) (all p (take m xs)) e, all-front p n m xs (omega arith) (and-right (p x) (all p (take m xs)) e))
+all-front p (suc n) (suc m) (x ∷ xs) h e = simp (
+  and-left (p x) (all p (take m xs)) e,
+  all-front p n m xs (omega arith) (and-right (p x) (all p (take m xs)) e),
+)
 
 all-part : {X : Type 0} (p : X → Bool) (i n m : ℕ) (xs : List X) → i + n ≤ m → all p (take m xs) ≡ true → all p (take n (drop i xs)) ≡ true
 unfolding fold
@@ -175,12 +185,14 @@ module _ (d : Device) (k : ℕ) (g : Good d) (few : d .count ≤ 4) (there : k �
 
   device-short : (x : DeviceSetting) → length (decimal (Record.value x d .0)) ≤ 11
   unfolding deviceSettings
-  device-short CommAddress = short-in (pos 1) (pos 99) (d .comm .address .0) (above 1 (omega arith)) (above 99 (omega arith)) (at 0 (omega arith))
+  device-short CommAddress = short-in (pos 1) (pos 99) (d .comm .address .0) (above 1 (omega arith)) (above 99 (omega arith))
+      (at 0 (omega arith))
   device-short CommAlert = short-up 1 (d .comm .alert .0) (omega arith) (at 1 (omega arith))
   device-short CommChecksum = short-up 1 (d .comm .checksum .0) (omega arith) (at 2 (omega arith))
   device-short SystemAccess = short-in (pos 1) (pos 2) (d .access .0) (above 1 (omega arith)) (above 2 (omega arith)) (at 3 (omega arith))
   device-short DeviceId = short-up 2147483647 (d .id .0) (omega arith) (at 4 (omega arith))
-  device-short SystemAxisCount = short-in (pos 1) (pos 4) (pos (d .count)) (above 1 (omega arith)) (above 4 (omega arith)) (at 5 (omega arith))
+  device-short SystemAxisCount = short-in (pos 1) (pos 4) (pos (d .count)) (above 1 (omega arith)) (above 4 (omega arith))
+      (at 5 (omega arith))
 
   -- ---- the data of each kind
   text-fits : (ws : List (List ℕ)) → length (echoed ws) ≤ 74 → (x : Shown) → length (textOf d k ws x) ≤ 74
@@ -207,8 +219,10 @@ echo-short c s skip h = go (isEcho c)
     go true = echo-fits s skip h
     go false = omega (arith, echoed-none)
 
-pub data-fits : (d : Device) (k : ℕ) (c : Command) (s : List ℕ) (skip : ℕ) → good d ≡ true → d .count ≤ 4 → refusal d k c ≡ 0 → length s ≤ 78
+pub data-fits : (d : Device) (k : ℕ) (c : Command) (s : List ℕ) (skip : ℕ) → good d ≡ true → d .count ≤ 4 → refusal d k c ≡ 0
+    → length s ≤ 78
     → length (dataOf d k (echoOf c (drop skip (cut s))) c) ≤ 74
 unfolding dataOf badAxis
 data-fits d k c s skip g few e h =
-    text-fits d k (parts d g) few (ltb-false (d .count) k (within-count d k c e)) (echoOf c (drop skip (cut s))) (echo-short c s skip h) (shownBy c)
+    text-fits d k (parts d g) few (ltb-false (d .count) k (within-count d k c e)) (echoOf c (drop skip (cut s))) (echo-short c s skip h)
+    (shownBy c)

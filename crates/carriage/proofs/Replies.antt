@@ -37,7 +37,8 @@ use Rattle.carriage.specs.Step.{Replied, Gives, written, wantsSum, reply
 pub good-count : (d : Device) → good d ≡ true → d .count ≤ 4
 unfolding good fold deviceSettings
 good-count d h =
-    let all = and-left (inRange d CommAddress && (inRange d CommAlert && (inRange d CommChecksum && (inRange d SystemAccess && (inRange d DeviceId && (inRange d SystemAxisCount && true)))))) _ h in
+    let all = and-left (inRange d CommAddress && (inRange d CommAlert &&
+    (inRange d CommChecksum && (inRange d SystemAccess && (inRange d DeviceId && (inRange d SystemAxisCount && true)))))) _ h in
     let c1 = and-right (inRange d CommAddress) _ all in
     let c2 = and-right (inRange d CommAlert) _ c1 in
     let c3 = and-right (inRange d CommChecksum) _ c2 in
@@ -50,7 +51,8 @@ good-count d h =
 pub shown-digit : (d : Device) (k : ℕ) → d .count ≤ 4 → shownAxis d k < 10
 unfolding shownAxis
 shown-digit d k h =
-    ⊎-elim (λ (l : d .count < k). rw (lt-leb k (d .count) l) (omega arith)) (λ l. rw (le-leb k (d .count) l) (omega arith)) (lt-or-le (d .count) k)
+    ⊎-elim (λ (l : d .count < k). rw (lt-leb k (d .count) l) (omega arith)) (λ l. rw (le-leb k (d .count) l) (omega arith))
+    (lt-or-le (d .count) k)
 
 -- the axis in a head is one digit
 pub head-digit : {h : Heading} (d : Device) (k : ℕ) (ok : Bool) → h ≡ headingOf d k ok → d .count ≤ 4 → h .head .axis < 10
@@ -66,7 +68,8 @@ module _ (h : Head) (axis : h .axis < 10) (sum : Bool) (words : List ℕ) {b c e
 
 -- a reply of the record d is the answer, beside the number n
 module _ (n : ℕ) (d : Device) (k : ℕ) (ok : Bool) (words : List ℕ) {b f : List ℕ} {r : ℕ} where
-  pub reply-gives : Replied (reply (headOf d k ok) (wantsSum d) words) b r f → {a : Answer} → a ≡ record { number = n; length = r; next = d }
+  pub reply-gives : Replied (reply (headOf d k ok) (wantsSum d) words) b r f → {a : Answer}
+      → a ≡ record { number = n; length = r; next = d }
       → Gives (written n d (replyOf d k ok words) b) a f
   unfolding written replyOf
   reply-gives w e = record { result = e ∙ ap (λ (x : ℕ). record { number = n; length = x; next = d }) (w .place); left = w .left }

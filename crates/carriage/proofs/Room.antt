@@ -44,7 +44,12 @@ content-of l = go (frameOf l) refl
   where
     go : (f : Frame) → frameOf l ≡ f → Content (contentOf l f)
     go (Frame.Refused n) q = record { bytes = []; cuts = refl; short = omega arith }
-    go (Frame.Content n) q = record { bytes = take n (drop 1 l); cuts = refl; short = rw length-take (omega (arith, content-fits l n refl q)) }
+    go (Frame.Content n) q = record {
+      bytes = take n (drop 1 l);
+      cuts = refl;
+      short =
+          rw length-take (omega (arith, content-fits l n refl q));
+    }
 
 reply-short : (d : Device) (k : ℕ) (ok : Bool) (words : List ℕ) → d .count ≤ 4 → length words ≤ 74 → length (replyOf d k ok words) ≤ 96
 unfolding replyOf headOf
@@ -69,7 +74,8 @@ unread-small (Addressed n k skip (Words.Command c)) = omega arith
 
 line-small : (l : List ℕ) → refusalOf l ≤ 11
 unfolding refusalOf
-line-small l = at-most 11 (more (omega arith) (more (omega arith) (more (omega arith) (more (omega arith) (more (omega arith) (more (omega arith) none))))))
+line-small l = at-most 11 (more (omega arith) (more (omega arith)
+    (more (omega arith) (more (omega arith) (more (omega arith) (more (omega arith) none))))))
 
 pub silence-small : (d : Device) (l b : List ℕ) → silence d (readLine l) b ≤ 21
 unfolding silence

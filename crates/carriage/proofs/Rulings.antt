@@ -41,7 +41,8 @@ module _ (d : Device) (ws : List (List ℕ)) (b : List ℕ) where
   words-answered k skip (Words.Refused n) = refl
   words-answered k skip (Words.Command c) = go (eqb (refusal d k c) 0)
     where
-      go : (t : Bool) → answering (cond t (Accepted k skip c) (Rejected k (refusal d k c))) ≡ cond t (accepted d k (echoOf c (drop skip ws)) c b) (rejected (refusal d k c) d k b)
+      go : (t : Bool) → answering (cond t (Accepted k skip c) (Rejected k (refusal d k c))) ≡ cond t
+          (accepted d k (echoOf c (drop skip ws)) c b) (rejected (refusal d k c) d k b)
       go true = refl
       go false = refl
 
@@ -50,7 +51,8 @@ module _ (d : Device) (ws : List (List ℕ)) (b : List ℕ) where
     answered (Line.Silent n) = respond-silent d ws b room g n
     answered (Line.Addressed a k skip w) = go (concerns d a) refl
       where
-        go : (t : Bool) → concerns d a ≡ t → answering (cond t (ruleWords d k skip w) (Silent 5)) ≡ respond d ws (Line.Addressed a k skip w) b
+        go : (t : Bool) → concerns d a ≡ t → answering (cond t (ruleWords d k skip w) (Silent 5)) ≡ respond d ws
+            (Line.Addressed a k skip w) b
         go true e = words-answered k skip w ∙ respond-mine d ws b room g a k skip w e
         go false e = respond-other d ws b room g a k skip w e
 
@@ -59,7 +61,8 @@ module _ (d : Device) (ws : List (List ℕ)) (b : List ℕ) where
 
     -- the three ways to carry a ruling out
     module _ {x : Ruling} (ruled : x ≡ rule d (readWords ws)) where
-      pub carried-silent : (n : ℕ) → x ≡ Silent n → {a : Answer} → a ≡ record { number = n; length = 0; next = d } → Gives (respond d ws (readWords ws) b) a b
+      pub carried-silent : (n : ℕ) → x ≡ Silent n → {a : Answer} → a ≡ record { number = n; length = 0; next = d }
+          → Gives (respond d ws (readWords ws) b) a b
       carried-silent n e p = gives-as (answered-as ruled e) (silent-gives n d b p)
 
       pub carried-rejected : (k n : ℕ) → x ≡ Rejected k n → {h : Heading} → h ≡ headingOf d k false
@@ -74,7 +77,8 @@ module _ (d : Device) (ws : List (List ℕ)) (b : List ℕ) where
           → {a : Answer} → a ≡ record { number = 0; length = r; next = after } → Gives (respond d ws (readWords ws) b) a f
       unfolding accepted
       carried-accepted k skip c e m p w q =
-          gives-as (answered-as ruled e) (reply-gives 0 (next d k c) k true (dataOf d k (echoOf c (drop skip ws)) c) (rw (p, m) at w) (rw m at q))
+          gives-as (answered-as ruled e) (reply-gives 0 (next d k c) k true (dataOf d k (echoOf c (drop skip ws)) c) (rw (p, m) at w)
+          (rw m at q))
 
 module _ (d : Device) where
   abbrev pub Sound : Ruling → Type 0

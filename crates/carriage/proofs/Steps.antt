@@ -34,7 +34,8 @@ use Rattle.carriage.specs.Step.{Stepped, Gives, silent, concerns, addres
 pub gives-as : {s t : Stepped} {r : Answer} {c : List ℕ} → s ≡ t → Gives s r c → Gives t r c
 gives-as {r = r} {c = c} e g = subst (λ (x : Stepped). Gives x r c) e g
 
-pub silent-gives : (n : ℕ) (d : Device) (b : List ℕ) {r : Answer} → r ≡ record { number = n; length = 0; next = d } → Gives (silent n d b) r b
+pub silent-gives : (n : ℕ) (d : Device) (b : List ℕ) {r : Answer} → r ≡ record { number = n; length = 0; next = d }
+    → Gives (silent n d b) r b
 unfolding silent
 silent-gives n d b e = record { result = e; left = refl }
 
@@ -89,7 +90,8 @@ unfolding readWords axisOf
 skip-few ws a k skip w q e = go (startsNumber (headWord ws)) (sym q ∙ e)
   where
     axis : (n : ℕ) (vs : List (List ℕ)) (t : Bool)
-        → cond t (Addressed n (axisDigit (headWord vs)) 2 (readCommand (tailWords vs))) (Addressed n 0 1 (readCommand vs)) ≡ Addressed a k skip w → skip ≤ 2
+        → cond t (Addressed n (axisDigit (headWord vs)) 2 (readCommand (tailWords vs))) (Addressed n 0 1 (readCommand vs))
+        ≡ Addressed a k skip w → skip ≤ 2
     axis n vs true e = let z : 2 ≡ skip = cc in omega arith
     axis n vs false e = let z : 1 ≡ skip = cc in omega arith
 
@@ -97,7 +99,8 @@ skip-few ws a k skip w q e = go (startsNumber (headWord ws)) (sym q ∙ e)
     address (Unsigned.Refused p) e = let z : _≡_ {A = ℕ} 0 1 = cc in absurd (omega arith)
     address (Unsigned.Value n) e = axis n (tailWords ws) (ltb (axisDigit (headWord (tailWords ws))) 10) e
 
-    go : (t : Bool) → cond t (addressOf (readAddress (headWord ws)) (tailWords ws)) (Addressed 0 0 0 (readCommand ws)) ≡ Addressed a k skip w → skip ≤ 2
+    go : (t : Bool) → cond t (addressOf (readAddress (headWord ws)) (tailWords ws)) (Addressed 0 0 0 (readCommand ws))
+        ≡ Addressed a k skip w → skip ≤ 2
     go true e = address (readAddress (headWord ws)) e
     go false e = let z : 0 ≡ skip = cc in omega arith
 
@@ -120,8 +123,9 @@ module _ (d : Device) (l b : List ℕ) where
     unfolding step readLine wordsOf
     step-silent e = rw (sym q ∙ e) (respond-silent d [] b room g n)
 
-    pub step-heard : f ≡ Frame.Content n → (s : List ℕ) → s ≡ take (n + 1 - 1) (drop 1 l) → respond d (cut s) (readWords (cut s)) b ≡ step d l b
+    pub step-read : f ≡ Frame.Content n → (s : List ℕ) → s ≡ take (n + 1 - 1) (drop 1 l)
+        → respond d (cut s) (readWords (cut s)) b ≡ step d l b
     unfolding step readLine wordsOf
-    step-heard e s p =
+    step-read e s p =
         let m : n + 1 - 1 ≡ n = omega arith in
         rw (p, m, sym q ∙ e)

@@ -27,11 +27,13 @@ use Rattle.line.specs.Open.{reading}
 use Rattle.carriage.specs.Step as Step
 
 unfoldable openLaws : ℕ
-unfolding LawsLists.fold LawsLists.span LawsLists.changeFirst LawsLists.changeFrom LawsRefusals.firstOf LawsText.text LawsText.same LawsText.spaced
+unfolding LawsLists.fold LawsLists.span LawsLists.changeFirst LawsLists.changeFrom LawsRefusals.firstOf LawsText.text LawsText.same
+    LawsText.spaced
 openLaws = 0
 
 unfoldable openNumber : ℕ
-unfolding NumberChecksum.sumText NumberDecimal.lastDigit NumberDecimal.digitsWithin NumberDecimal.digits NumberDecimal.decimal NumberDecimal.twoDigits NumberDecimal.hexDigit NumberDecimal.hexPair
+unfolding NumberChecksum.sumText NumberDecimal.lastDigit NumberDecimal.digitsWithin NumberDecimal.digits NumberDecimal.decimal
+    NumberDecimal.twoDigits NumberDecimal.hexDigit NumberDecimal.hexPair
 openNumber = 0
 
 unfoldable openFlags : ℕ
@@ -47,15 +49,18 @@ unfolding SettingsRecord.freshSettings
 openSettings = 0
 
 unfoldable openAxis : ℕ
-unfolding AxisAim.aim AxisGood.goodAxis AxisMoves.moved AxisMoves.store AxisRecord.stopped AxisRecord.freshAxis AxisTravel.stored AxisTravel.mayMoveTo AxisTravel.mayRunAt AxisTravel.mayStore
+unfolding AxisAim.aim AxisGood.goodAxis AxisMoves.moved AxisMoves.store AxisRecord.stopped AxisRecord.freshAxis AxisTravel.stored
+    AxisTravel.mayMoveTo AxisTravel.mayRunAt AxisTravel.mayStore
 openAxis = 0
 
 unfoldable openState : ℕ
-unfolding StateEach.partOf StateGood.good StateGood.mayBeFresh StateGood.askFresh StateRecord.many StateRecord.axesOf StateRecord.onAxes StateRecord.fresh
+unfolding StateEach.stretchOf StateGood.good StateGood.mayBeFresh StateGood.askFresh StateRecord.many StateRecord.axesOf StateRecord.onAxes
+    StateRecord.fresh
 openState = 0
 
 unfoldable openDevice : ℕ
-unfolding DeviceEffects.next DeviceEffects.obey DeviceRefusals.badAxis DeviceRefusals.deviceOnly DeviceRefusals.noAccess DeviceRefusals.parked DeviceRefusals.statusBusy DeviceRefusals.badData DeviceRefusals.refusal
+unfolding DeviceEffects.next DeviceEffects.obey DeviceRefusals.badAxis DeviceRefusals.deviceOnly DeviceRefusals.noAccess
+    DeviceRefusals.parked DeviceRefusals.statusBusy DeviceRefusals.badData DeviceRefusals.refusal
 openDevice = 0
 
 unfoldable openData : ℕ
@@ -75,9 +80,11 @@ unfolding ShownData.parkedData ShownData.dataOf
 openShown = 0
 
 unfoldable openStep : ℕ
-unfolding Step.silent Step.written Step.wantsSum Step.replyOf Step.rejected Step.accepted Step.obeyed Step.concerns Step.silence Step.respond Step.step
+unfolding Step.silent Step.written Step.wantsSum Step.replyOf Step.rejected Step.accepted Step.obeyed Step.concerns Step.silence
+    Step.respond Step.step
 openStep = 0
 
 unfoldable pub answering : ℕ
-unfolding reading openLaws openNumber openFlags openCommand openSettings openAxis openState openDevice openData openReply openView openShown openStep
+unfolding reading openLaws openNumber openFlags openCommand openSettings openAxis openState openDevice openData openReply openView
+    openShown openStep
 answering = 0

@@ -3,6 +3,7 @@
 use mathlib.Core.Bool.{Bool, cond}
 use Prim.Native.Nat.{ℕ}
 use lib.Dec.{eqb}
+use Rattle.laws.specs.Refusals.{NOTMINE}
 use Rattle.phrase.specs.declared.WordsRead.{WordsRead}
 use Rattle.phrase.specs.declared.WordsRead.the-variants as Words
 use Rattle.line.specs.declared.LineRead.{LineRead}
@@ -23,7 +24,7 @@ ruleWords d k skip (Words.Command c) = cond (eqb (refusal d k c) 0) (Accepted k 
 -- the reader's 4; or 5 where the line does not concern the device; or what its words come to
 abbrev pub rule : Device → LineRead → Ruling
 rule d (Line.Silent n) = Silent n
-rule d (Line.Addressed a k skip w) = cond (concerns d a) (ruleWords d k skip w) (Silent 5)
+rule d (Line.Addressed a k skip w) = cond (concerns d a) (ruleWords d k skip w) (Silent NOTMINE)
 
 -- what a reply has of its record besides the data
 abbrev pub headingOf : Device → ℕ → Bool → Heading

@@ -6,7 +6,7 @@ use mathlib.Core.List.{List, [], _∷_, _++_}
 use Prim.Native.Nat.{ℕ}
 use lib.Dec.{eqb, ltb}
 use lib.ListN.{length, drop}
-use Rattle.laws.specs.Refusals.{_when_, firstOf}
+use Rattle.laws.specs.Refusals.{_when_, firstOf, NOROOM, BADSTATE, NOTMINE}
 use Rattle.units.specs.Units.{place}
 use Rattle.command.specs.declared.Command.{Command}
 use Rattle.phrase.specs.declared.WordsRead.{WordsRead}
@@ -20,7 +20,7 @@ use Rattle.device.specs.Good.{good}
 use Rattle.rules.specs.Refusals.{refusal}
 use Rattle.rules.specs.Effects.{next}
 use Rattle.reply.specs.Data.{refusalName}
-use Rattle.reply.specs.Reply.{reply}
+use Rattle.reply.specs.Reply.{longestReply, reply}
 use Rattle.view.specs.View.{headOf}
 use Rattle.carriage.specs.declared.Answer.{Answer}
 use Rattle.view.specs.Data.{dataOf}
@@ -79,10 +79,10 @@ notMine d (Addressed n k skip w) = not (concerns d n)
 unfoldable pub silence : Device → LineRead → List ℕ → ℕ
 silence d r b =
     firstOf
-    (20 when ltb (length b) 96
-    ∷ 21 when not (good d)
+    (NOROOM when ltb (length b) longestReply
+    ∷ BADSTATE when not (good d)
     ∷ unread r when not (eqb (unread r) 0)
-    ∷ 5 when notMine d r
+    ∷ NOTMINE when notMine d r
     ∷ [])
 
 -- the reader's 10 or 11, or its command, whose own words stand behind `skip` others of the line's words ws

@@ -10,7 +10,7 @@ ghost use Rattle.line.specs.Reading.{readWords};
 ghost use Rattle.device.specs.Good.{good as goodOf};
 ghost use Rattle.rules.specs.Refusals.{refusal as refusalOf};
 ghost use Rattle.carriage.specs.Report.{report as reportOf};
-ghost use Rattle.reply.specs.Reply.{reply as replyText};
+ghost use Rattle.reply.specs.Reply.{longestReply, reply as replyText};
 ghost use Rattle.reply.specs.Data.{refusalName};
 ghost use Rattle.view.specs.Data.{dataOf};
 ghost use Rattle.carriage.specs.Step.{Replied, Gives, concerns as concernsOf, respond, step as stepOf};
@@ -18,10 +18,15 @@ ghost use Rattle.carriage.specs.Rulings.{headingOf, ruleWords, rule as r
 use command::Command;
 use device::Device;
 use device::Outcome;
+use laws::ACCEPTED;
+use laws::BADSTATE;
+use laws::NOROOM;
+use laws::NOTMINE;
 use line::Frame;
 use line::LineRead;
 use phrase::WordsRead;
 use reply::Head;
+use reply::LONGEST_REPLY;
 use reply::put_end;
 use reply::put_head;
 use rules::effects::next;
@@ -69,7 +74,7 @@ fn heading_of(d: Device, k: u64, ok: bool) -> Heading
 }
 
 fn put_rejection(h: Heading, number: u8, reply: &mut [u8]) -> usize
-    requires { ⌜ (96 ≤ length (now reply)) × (h .head .axis < 10) ⌝ }
+    requires { ⌜ (longestReply ≤ length (now reply)) × (h .head .axis < 10) ⌝ }
     ensures { λ r. ⌜ Replied (replyText (h .head) (h .sum) (refusalName number)) (now (reply .entry)) r (now (reply .exit)) ⌝ }
 {
     let data = put_head(reply, 0, h.head);
@@ -87,7 +92,7 @@ fn put_acceptance(
     skip: usize,
     reply: &mut [u8],
 ) -> usize
-    requires { ⌜ (96 ≤ length (now reply)) × (h .head .axis < 10) × (goodOf d ≡ true) × (refusalOf d k c ≡ 0) × (length (now s) ≤ 78) × (skip ≤ 2) ⌝ }
+    requires { ⌜ (longestReply ≤ length (now reply)) × (h .head .axis < 10) × (goodOf d ≡ true) × (refusalOf d k c ≡ 0) × (length (now s) ≤ 78) × (skip ≤ 2) ⌝ }
     ensures { λ r. ⌜ Replied (replyText (h .head) (h .sum) (dataOf d k (echoOf c (drop skip (cut (now (s .entry))))) c)) (now (reply .entry)) r (now (reply .exit)) ⌝ }
 {
     let data = put_head(reply, 0, h.head);
@@ -132,7 +137,7 @@ fn rule(d: Device, r: LineRead) -> Ruling
             if concerns(d, address) {
                 rule_words(d, axis, skip, w)
             } else {
-                Ruling::Silent(5)
+                Ruling::Silent(NOTMINE)
             }
         }
     }
@@ -140,7 +145,7 @@ fn rule(d: Device, r: LineRead) -> Ruling
 
 // The answer to a line's content, once it is ruled. A command that only shows has no next record to be made.
 fn carry_out(d: Device, x: Ruling, s: &[u8], reply: &mut [u8]) -> Answer
-    requires { ⌜ (96 ≤ length (now reply)) × (goodOf d ≡ true) × (length (now s) ≤ 78) × (x ≡ ruleOf d (readWords (cut (now s)))) ⌝ }
+    requires { ⌜ (longestReply ≤ length (now reply)) × (goodOf d ≡ true) × (length (now s) ≤ 78) × (x ≡ ruleOf d (readWords (cut (now s)))) ⌝ }
     ensures { λ r. ⌜ Gives (respond d (cut (now (s .entry))) (readWords (cut (now (s .entry)))) (now (reply .entry))) r (now (reply .exit)) ⌝ }
 {
     match x {
@@ -152,11 +157,11 @@ fn carry_out(d: Device, x: Ruling, s: &[u8], reply: &mut [u8]) -> Answer
         Ruling::Accepted(k, skip, c) => {
             if axis::commands::only_shows(c) {
                 let length = put_acceptance(heading_of(d, k, true), d, k, c, s, skip, reply);
-                answer_of(d, 0, length)
+                answer_of(d, ACCEPTED, length)
             } else {
                 let after = next(d, k, c);
                 let length = put_acceptance(heading_of(after, k, true), d, k, c, s, skip, reply);
-                answer_of(after, 0, length)
+                answer_of(after, ACCEPTED, length)
             }
         }
     }
@@ -166,12 +171,12 @@ fn carry_out(d: Device, x: Ruling, s: &[u8], reply: &mut [u8]) -> Answer
 pub fn step(d: Device, line: &[u8], reply: &mut [u8]) -> Answer
     ensures { λ r. ⌜ Gives (stepOf d (now (line .entry)) (now (reply .entry))) r (now (reply .exit)) ⌝ }
 {
-    if reply.len() < 96 {
-        return answer_of(d, 20, 0);
+    if reply.len() < LONGEST_REPLY {
+        return answer_of(d, NOROOM, 0);
     }
     let good = d.good();
     if !good {
-        return answer_of(d, 21, 0);
+        return answer_of(d, BADSTATE, 0);
     }
     match line::framing::read_frame(line) {
         Frame::Refused(n) => answer_of(d, n, 0),
@@ -186,5 +191,5 @@ pub fn step(d: Device, line: &[u8], reply: &mut [u8]) -> Answer
 pub fn report(d: Device, axis: Number, kind: Number, last: Number) -> Outcome
     ensures { λ r. ⌜ r ≡ reportOf d axis kind last ⌝ }
 {
-    rules::motor::report(d, axis, axis::reports::report_of(kind, last))
+    rules::reports::report(d, axis, axis::reports::report_of(kind, last))
 }

@@ -53,7 +53,8 @@ about (OfDevice s) = aboutDevice s
 
 -- every setting, in the table's order
 unfoldable pub axisSettings : List AxisSetting
-axisSettings = Pos ∷ LimitMin ∷ LimitMax ∷ MaxSpeed ∷ Accel ∷ DriverCurrentMax ∷ DriverCurrentRun ∷ DriverCurrentHold ∷ DriverDir ∷ EncoderIndexCount ∷ []
+axisSettings = Pos ∷ LimitMin ∷ LimitMax ∷ MaxSpeed ∷ Accel ∷ DriverCurrentMax ∷ DriverCurrentRun ∷ DriverCurrentHold ∷ DriverDir
+    ∷ EncoderIndexCount ∷ []
 
 unfoldable pub deviceSettings : List DeviceSetting
 deviceSettings = CommAddress ∷ CommAlert ∷ CommChecksum ∷ SystemAccess ∷ DeviceId ∷ SystemAxisCount ∷ []

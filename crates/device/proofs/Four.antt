@@ -10,15 +10,15 @@ use Rattle.laws.specs.Lists.{fold, any}
 use Rattle.laws.proofs.Bools.{or-false}
 use Rattle.flags.specs.Flags.{bits, mask, either, union}
 use Rattle.flags.proofs.Unions.{bits-union, union-start}
-use Rattle.device.specs.declared.walks.Part.{Part}
+use Rattle.device.specs.declared.walks.Stretch.{Stretch}
 use Rattle.device.specs.Each.{covers}
 
 module _ {X : Type 0} where
   abbrev keep : Bool → X → List X → List X
   keep b x xs = cond b (x ∷ xs) xs
 
-  -- those of four elements that the part covers
-  abbrev pub kept : Part → X → X → X → X → List X
+  -- those of four elements that the stretch covers
+  abbrev pub kept : Stretch → X → X → X → X → List X
   kept p a b c d = keep (covers p 0) a (keep (covers p 1) b (keep (covers p 2) c (keep (covers p 3) d [])))
 
   of-four : (a b c d : X) (i n : ℕ) → i + n ≤ 4 → take n (drop i (a ∷ b ∷ c ∷ d ∷ [])) ≡ kept (record { from = i; many = n }) a b c d
@@ -45,14 +45,14 @@ module _ {X : Type 0} where
   of-four a b c d (suc (suc (suc (suc zero)))) (suc n) h = absurd (omega arith)
   of-four a b c d (suc (suc (suc (suc (suc i))))) n h = absurd (omega arith)
 
-  pub part-kept : (xs : List X) (z : X) → length xs ≡ 4 → (p : Part) → p .from + p .many ≤ 4
+  pub stretch-kept : (xs : List X) (z : X) → length xs ≡ 4 → (p : Stretch) → p .from + p .many ≤ 4
       → take (p .many) (drop (p .from) xs) ≡ kept p (getD xs 0 z) (getD xs 1 z) (getD xs 2 z) (getD xs 3 z)
-  part-kept [] z e p h = absurd (omega arith)
-  part-kept (a ∷ []) z e p h = absurd (omega arith)
-  part-kept (a ∷ b ∷ []) z e p h = absurd (omega arith)
-  part-kept (a ∷ b ∷ c ∷ []) z e p h = absurd (omega arith)
-  part-kept (a ∷ b ∷ c ∷ d ∷ []) z e p h = of-four a b c d (p .from) (p .many) h
-  part-kept (a ∷ b ∷ c ∷ d ∷ x ∷ xs) z e p h = absurd (omega arith)
+  stretch-kept [] z e p h = absurd (omega arith)
+  stretch-kept (a ∷ []) z e p h = absurd (omega arith)
+  stretch-kept (a ∷ b ∷ []) z e p h = absurd (omega arith)
+  stretch-kept (a ∷ b ∷ c ∷ []) z e p h = absurd (omega arith)
+  stretch-kept (a ∷ b ∷ c ∷ d ∷ []) z e p h = of-four a b c d (p .from) (p .many) h
+  stretch-kept (a ∷ b ∷ c ∷ d ∷ x ∷ xs) z e p h = absurd (omega arith)
 
 module _ {X : Type 0} (f : X → Bool) where
   any-keep : (b : Bool) (x : X) (xs : List X) → any f (keep b x xs) ≡ ((b && f x) || any f xs)
@@ -60,13 +60,14 @@ module _ {X : Type 0} (f : X → Bool) where
   any-keep true x xs = refl
   any-keep false x xs = refl
 
-  -- whether some place of the part passes, from whether each place is one of them and passes
-  pub any-part : (xs : List X) (z : X) → length xs ≡ 4 → (p : Part) → p .from + p .many ≤ 4 → {a b c d : Bool}
-      → a ≡ (covers p 0 && f (getD xs 0 z)) → b ≡ (covers p 1 && f (getD xs 1 z)) → c ≡ (covers p 2 && f (getD xs 2 z)) → d ≡ (covers p 3 && f (getD xs 3 z))
+  -- whether some place of the stretch passes, from whether each place is one of them and passes
+  pub any-stretch : (xs : List X) (z : X) → length xs ≡ 4 → (p : Stretch) → p .from + p .many ≤ 4 → {a b c d : Bool}
+      → a ≡ (covers p 0 && f (getD xs 0 z)) → b ≡ (covers p 1 && f (getD xs 1 z)) → c ≡ (covers p 2 && f (getD xs 2 z))
+      → d ≡ (covers p 3 && f (getD xs 3 z))
       → (a || (b || (c || d))) ≡ any f (take (p .many) (drop (p .from) xs))
   unfolding fold
-  any-part xs z four p inside ea eb ec ed =
-      rw (ea, eb, ec, ed, part-kept xs z four p inside, any-keep, any-keep, any-keep, any-keep, or-false)
+  any-stretch xs z four p inside ea eb ec ed =
+      rw (ea, eb, ec, ed, stretch-kept xs z four p inside, any-keep, any-keep, any-keep, any-keep, or-false)
 
 -- f gives eight flags
 module _ {X : Type 0} (f : X → List Bool) (eight : (x : X) → bits 8 (mask (f x)) ≡ f x) where
@@ -88,13 +89,15 @@ module _ {X : Type 0} (f : X → List Bool) (eight : (x : X) → bits 8 (mask (f
   unfolding bits fold
   none = refl
 
-  -- the flags of the part, joined from the last place to the first
-  pub union-part : (xs : List X) (z : X) → length xs ≡ 4 → (p : Part) → p .from + p .many ≤ 4 → {a b c d : ℕ}
-      → d ≡ mask (either (cond (covers p 3) (f (getD xs 3 z)) (bits 8 0)) (bits 8 0)) → c ≡ mask (either (cond (covers p 2) (f (getD xs 2 z)) (bits 8 0)) (bits 8 d))
-      → b ≡ mask (either (cond (covers p 1) (f (getD xs 1 z)) (bits 8 0)) (bits 8 c)) → a ≡ mask (either (cond (covers p 0) (f (getD xs 0 z)) (bits 8 0)) (bits 8 b))
+  -- the flags of the stretch, joined from the last place to the first
+  pub union-stretch : (xs : List X) (z : X) → length xs ≡ 4 → (p : Stretch) → p .from + p .many ≤ 4 → {a b c d : ℕ}
+      → d ≡ mask (either (cond (covers p 3) (f (getD xs 3 z)) (bits 8 0)) (bits 8 0))
+      → c ≡ mask (either (cond (covers p 2) (f (getD xs 2 z)) (bits 8 0)) (bits 8 d))
+      → b ≡ mask (either (cond (covers p 1) (f (getD xs 1 z)) (bits 8 0)) (bits 8 c))
+      → a ≡ mask (either (cond (covers p 0) (f (getD xs 0 z)) (bits 8 0)) (bits 8 b))
       → a ≡ mask (union f (take (p .many) (drop (p .from) xs)))
-  union-part xs z four p inside ed ec eb ea =
+  union-stretch xs z four p inside ed ec eb ea =
       let hd = joined (covers p 3) (getD xs 3 z) 0 [] ed none in
       let hc = joined (covers p 2) (getD xs 2 z) _ _ ec hd in
       let hb = joined (covers p 1) (getD xs 1 z) _ _ eb hc in
-      rw (ea, hb, part-kept xs z four p inside, union-keep (covers p 0) (getD xs 0 z))
+      rw (ea, hb, stretch-kept xs z four p inside, union-keep (covers p 0) (getD xs 0 z))

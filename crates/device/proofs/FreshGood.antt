@@ -38,7 +38,12 @@ module _ (address : Number) (count : ℕ) (id : Number) where
       let a = within (deviceRange CommAddress) (address .0) in
       let n = within (deviceRange SystemAxisCount) (pos count) in
       let i = within (deviceRange DeviceId) (id .0) in
-      simp (and-left a (n && i) h, and-left n i (and-right a (n && i) h), and-right n i (and-right a (n && i) h), all-copies goodAxis freshAxis fresh-axis-good count 4)
+      simp (
+        and-left a (n && i) h,
+        and-left n i (and-right a (n && i) h),
+        and-right n i (and-right a (n && i) h),
+        all-copies goodAxis freshAxis fresh-axis-good count 4,
+      )
 
   other-good : good (fresh (number (pos 1)) 1 (number (pos 0))) ≡ true
   unfolding good fresh fold deviceSettings axesOf many

@@ -1,3 +1,3 @@
 pub mod Four
-pub mod Parts
+pub mod Stretches
 pub mod FreshGood

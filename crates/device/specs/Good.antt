@@ -4,6 +4,7 @@ use mathlib.Core.Bool.{Bool, cond, not, _&&_}
 use Prim.Native.Nat.{ℕ}
 use lib.IntN.{pos}
 use Rattle.laws.specs.Lists.{all, any}
+use Rattle.laws.specs.Refusals.{BADSTATE, ACCEPTED}
 use Rattle.units.specs.Units.{number, within}
 use Rattle.command.specs.Settings.{deviceSettings}
 use Rattle.settings.specs.Settings.{deviceRange}
@@ -23,11 +24,12 @@ good d = all (inRange d) deviceSettings && (all goodAxis (axesOf d 0) && not (d 
 -- "A fresh record is asked for with address, axis count and device id"
 unfoldable pub mayBeFresh : Number → ℕ → Number → Bool
 mayBeFresh address count id =
-    within (deviceRange CommAddress) (address .0) && (within (deviceRange SystemAxisCount) (pos count) && within (deviceRange DeviceId) (id .0))
+    within (deviceRange CommAddress) (address .0) &&
+    (within (deviceRange SystemAxisCount) (pos count) && within (deviceRange DeviceId) (id .0))
 
 -- the record beside the 21 is of no account: it is always the same
 unfoldable pub askFresh : Number → ℕ → Number → Outcome
 askFresh address count id =
     cond (mayBeFresh address count id)
-    (record { number = 0; next = fresh address count id })
-    (record { number = 21; next = fresh (number (pos 1)) 1 (number (pos 0)) })
+    (record { number = ACCEPTED; next = fresh address count id })
+    (record { number = BADSTATE; next = fresh (number (pos 1)) 1 (number (pos 0)) })

@@ -5,11 +5,11 @@ ghost use Rattle.laws.specs.Lists.{all, any};
 ghost use Rattle.flags.specs.Flags.{mask, union};
 ghost use Rattle.axis.specs.Record.{moving as movingOf};
 ghost use Rattle.axis.specs.Warnings.{active as activeOf};
-ghost use Rattle.device.specs.Each.{passes as passesOf, changed as changedBy, partOf};
+ghost use Rattle.device.specs.Each.{passes as passesOf, changed as changedBy, stretchOf};
 ghost use Rattle.device.specs.Record.{many as manyOf, axesOf, onAxes};
 use crate::Device;
 use crate::walks::Change;
-use crate::walks::Part;
+use crate::walks::Stretch;
 use crate::walks::Test;
 
 impl Device {
@@ -20,10 +20,10 @@ impl Device {
     }
 
     // The axis places that k means; there are four.
-    pub fn part(self, k: u64) -> Part
-        ensures { λ r. ⌜ r ≡ partOf (manyOf self k) k ⌝ }
+    pub fn stretch(self, k: u64) -> Stretch
+        ensures { λ r. ⌜ r ≡ stretchOf (manyOf self k) k ⌝ }
     {
-        crate::walks::part_of(k, self.many(k))
+        crate::walks::stretch_of(k, self.many(k))
     }
 
     // Does every axis that k means pass the test?

@@ -10,6 +10,8 @@ ghost use Rattle.device.specs.Good.{inRange, good as goodOf, mayBeFresh,
 use crate::Device;
 use crate::Outcome;
 use command::DeviceSetting;
+use laws::ACCEPTED;
+use laws::BADSTATE;
 use settings::device_range;
 use units::Number;
 
@@ -55,12 +57,12 @@ impl Device {
     {
         if may_be_fresh(address, count, id) {
             Outcome {
-                number: 0,
+                number: ACCEPTED,
                 next: Device::new(address, count, id),
             }
         } else {
             Outcome {
-                number: 21,
+                number: BADSTATE,
                 next: Device::new(Number(1), 1, Number(0)),
             }
         }

@@ -2,17 +2,18 @@
 // The places are n from the number k on, or as many of them as there are; k is 1 for the first, and 0 means the same.
 ghost use mathlib.Core.Path.{_≡_};
 ghost use mathlib.Core.Bool.{cond, _&&_};
-ghost use Prim.Native.Nat.{_+_, _-_, _≤_, min};
+ghost use Prim.Native.Nat.{_+_, _-_, _≤_};
 ghost use lib.ListN.{length, take, drop};
 ghost use Rattle.laws.specs.Lists.{all, any, changeFrom};
 ghost use Rattle.flags.specs.Flags.{bits, mask, either, union};
 ghost use Rattle.axis.specs.Record.{moving as movingOf};
 ghost use Rattle.axis.specs.Good.{goodAxis};
 ghost use Rattle.axis.specs.Warnings.{active as activeOf};
-ghost use Rattle.device.specs.Each.{passes as passesOf, changed as changedBy, partOf, covers as coversAt};
+ghost use Rattle.device.specs.Each.{passes as passesOf, changed as changedBy, stretchOf, covers as coversAt};
 use axis::Axis;
 use axis::reports::Report;
 use command::Command;
+use units::lesser;
 
 // What is asked of an axis.
 pub enum Test {
@@ -23,11 +24,11 @@ pub enum Test {
 // What is done to an axis.
 pub enum Change {
     Obey(Command),
-    Hear(Report),
+    Take(Report),
 }
 
 // Some neighbouring axis places.
-pub struct Part {
+pub struct Stretch {
     pub from: usize,
     pub many: usize,
 }
@@ -46,7 +47,7 @@ fn changed(a: Axis, g: Change) -> Axis
 {
     match g {
         Change::Obey(c) => axis::commands::after(a, c),
-        Change::Hear(r) => axis::reports::reported(a, r),
+        Change::Take(r) => axis::reports::reported(a, r),
     }
 }
 
@@ -82,12 +83,6 @@ fn change_all(axes: [Axis; 4], g: Change, from: usize, many: usize) -> [Axis; 4]
     next
 }
 
-fn least(a: u64, b: u64) -> u64
-    ensures { λ r. ⌜ r ≡ min a b ⌝ }
-{
-    if a < b { a } else { b }
-}
-
 fn before(k: u64) -> u64
     ensures { λ r. ⌜ r ≡ k - 1 ⌝ }
 {
@@ -95,19 +90,16 @@ fn before(k: u64) -> u64
 }
 
 // The n places from the number k on, of the four that there are.
-pub fn part_of(k: u64, n: u64) -> Part
-    ensures { λ r. ⌜ r ≡ partOf n k ⌝ }
+pub fn stretch_of(k: u64, n: u64) -> Stretch
+    ensures { λ r. ⌜ r ≡ stretchOf n k ⌝ }
 {
-    let from = least(before(k), 4);
-    let many = least(n, 4 - from);
-    Part {
-        from: from as usize,
-        many: many as usize,
-    }
+    let from = lesser(before(k) as usize, 4);
+    let many = lesser(n as usize, 4 - from);
+    Stretch { from, many }
 }
 
-// Is the axis at place i, from 0, one of the part?
-fn covers(p: Part, i: usize) -> bool
+// Is the axis at place i, from 0, one of the stretch?
+fn covers(p: Stretch, i: usize) -> bool
     requires { ⌜ p .from + p .many ≤ 4 ⌝ }
     ensures { λ r. ⌜ r ≡ coversAt p i ⌝ }
 {
@@ -120,7 +112,7 @@ fn covers(p: Part, i: usize) -> bool
 pub fn all_good(axes: [Axis; 4], n: u64) -> bool
     ensures { λ r. ⌜ r ≡ all goodAxis (take n axes) ⌝ }
 {
-    let many = least(n, 4) as usize;
+    let many = lesser(n as usize, 4);
     let mut ok = true;
     let mut i: usize = 0;
     while i < many {
@@ -132,7 +124,7 @@ pub fn all_good(axes: [Axis; 4], n: u64) -> bool
     ok
 }
 
-fn moves_at(p: Part, i: usize, a: Axis) -> bool
+fn moves_at(p: Stretch, i: usize, a: Axis) -> bool
     requires { ⌜ p .from + p .many ≤ 4 ⌝ }
     ensures { λ r. ⌜ r ≡ (coversAt p i && movingOf a) ⌝ }
 {
@@ -141,8 +133,8 @@ fn moves_at(p: Part, i: usize, a: Axis) -> bool
     c & m
 }
 
-// The flags of an axis joined to those in w, or w alone where the part does not cover the axis.
-fn join_at(p: Part, i: usize, a: Axis, w: u32) -> u32
+// The flags of an axis joined to those in w, or w alone where the stretch does not cover the axis.
+fn join_at(p: Stretch, i: usize, a: Axis, w: u32) -> u32
     requires { ⌜ p .from + p .many ≤ 4 ⌝ }
     ensures { λ r. ⌜ r ≡ mask (either (cond (coversAt p i) (activeOf a) (bits 8 0)) (bits 8 w)) ⌝ }
 {
@@ -157,7 +149,7 @@ fn join_at(p: Part, i: usize, a: Axis, w: u32) -> u32
 pub fn any_moving(axes: [Axis; 4], k: u64, n: u64) -> bool
     ensures { λ r. ⌜ r ≡ any movingOf (take n (drop (k - 1) axes)) ⌝ }
 {
-    let p = part_of(k, n);
+    let p = stretch_of(k, n);
     let a = moves_at(p, 0, axes[0]);
     let b = moves_at(p, 1, axes[1]);
     let c = moves_at(p, 2, axes[2]);
@@ -169,7 +161,7 @@ pub fn any_moving(axes: [Axis; 4], k: u64, n: u64) -> bool
 pub fn ask_each(axes: [Axis; 4], k: u64, n: u64, t: Test) -> bool
     ensures { λ r. ⌜ r ≡ all (passesOf t) (take n (drop (k - 1) axes)) ⌝ }
 {
-    let p = part_of(k, n);
+    let p = stretch_of(k, n);
     all_pass(axes, t, p.from, p.many)
 }
 
@@ -177,7 +169,7 @@ pub fn ask_each(axes: [Axis; 4], k: u64, n: u64, t: Test) -> bool
 pub fn join_flags(axes: [Axis; 4], k: u64, n: u64) -> u32
     ensures { λ r. ⌜ r ≡ mask (union activeOf (take n (drop (k - 1) axes))) ⌝ }
 {
-    let p = part_of(k, n);
+    let p = stretch_of(k, n);
     let d = join_at(p, 3, axes[3], 0);
     let c = join_at(p, 2, axes[2], d);
     let b = join_at(p, 1, axes[1], c);
@@ -188,6 +180,6 @@ pub fn join_flags(axes: [Axis; 4], k: u64, n: u64) -> u32
 pub fn change_each(axes: [Axis; 4], k: u64, n: u64, g: Change) -> [Axis; 4]
     ensures { λ r. ⌜ r ≡ changeFrom (changedBy g) (k - 1) n axes ⌝ }
 {
-    let p = part_of(k, n);
+    let p = stretch_of(k, n);
     change_all(axes, g, p.from, p.many)
 }

@@ -5,7 +5,7 @@ use command::Command;
 use command::Setting;
 use command::Target;
 use device::Device;
-use host_reader::Heard;
+use host_reader::Message;
 use host_reader::ReplyRead;
 use host_reader::reading::field;
 use libc::STDOUT_FILENO;
@@ -84,7 +84,7 @@ fn say_either(yes: bool, a: &[u8], b: &[u8]) {
 }
 
 // What a reply says. Its data begins at byte 17.
-fn say_heard(h: Heard, reply: &[u8]) {
+fn say_message(h: Message, reply: &[u8]) {
     say(b" => address ");
     say_number(h.address);
     say(b", axis ");
@@ -99,7 +99,7 @@ fn say_heard(h: Heard, reply: &[u8]) {
 
 fn say_reply(reply: &[u8]) {
     match host_reader::reading::read_reply(reply) {
-        ReplyRead::Reply(h) => say_heard(h, reply),
+        ReplyRead::Reply(h) => say_message(h, reply),
         ReplyRead::NotReply => say(b" => no reply\n"),
     }
 }

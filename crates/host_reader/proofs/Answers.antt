@@ -8,7 +8,7 @@ use native.Mathlib.Omega.{arith}
 use lib.Dec.{eqb}
 use lib.ListN.{length}
 use borrow.Author.Tests.{le-leb, lt-leb}
-use Rattle.host_reader.specs.Reading.{dataLength, headIn, rightHead, framed, heard, readReply}
+use Rattle.host_reader.specs.Reading.{dataLength, headIn, rightHead, framed, messageOf, readReply}
 use Rattle.host_reader.specs.declared.Head.{Head}
 use Rattle.host_reader.specs.declared.ReplyRead.the-variants.{Reply, NotReply}
 
@@ -17,7 +17,8 @@ module _ (l : List ℕ) where
   unfolding readReply
   too-long h = rw (lt-leb (length l) 96 h)
 
-  pub whole : length l ≤ 96 → (framed l (17 + dataLength l) && rightHead (headIn l)) ≡ true → readReply l ≡ Reply (heard (headIn l) (dataLength l))
+  pub whole : length l ≤ 96 → (framed l (17 + dataLength l) && rightHead (headIn l)) ≡ true
+      → readReply l ≡ Reply (messageOf (headIn l) (dataLength l))
   unfolding readReply
   whole h t = rw (le-leb (length l) 96 h, t)
 
@@ -26,13 +27,22 @@ module _ (l : List ℕ) where
   broken h t = rw (le-leb (length l) 96 h, t)
 
   -- as the code has it
-  module _ (end : ℕ) (h : Head) (f r : Bool) (short : length l ≤ 96) (e : end ≡ 17 + dataLength l) (q : h ≡ headIn l) (p : f ≡ framed l end) (t : r ≡ rightHead h) where
+  module _ (end : ℕ) (h : Head) (f r : Bool) (short : length l ≤ 96) (e : end ≡ 17 + dataLength l) (q : h ≡ headIn l)
+      (p : f ≡ framed l end) (t : r ≡ rightHead h) where
     tests : (f && r) ≡ (framed l (17 + dataLength l) && rightHead (headIn l))
     tests = rw (p, t, e, q)
 
     pub is-reply : (f && r) ≡ true
-        → Reply (record { address = h .address; axis = h .axis; ok = eqb (h .verdict) 1; busy = eqb (h .status) 1; warning = h .warning; length = end - 17 }) ≡ readReply l
-    unfolding heard
+        → Reply (record {
+          address = h .address;
+          axis = h .axis;
+          ok =
+              eqb (h .verdict) 1;
+          busy = eqb (h .status) 1;
+          warning = h .warning;
+          length = end - 17;
+        }) ≡ readReply l
+    unfolding messageOf
     is-reply y =
         let n : end - 17 ≡ dataLength l = omega arith in
         rw (n, q) (sym (whole short (sym tests ∙ y)))

@@ -12,7 +12,7 @@ use Rattle.numbers.specs.Checksum.{total, checksum}
 use Rattle.numbers.specs.Reading.{valueOf, readPair}
 use Rattle.words.specs.Find.{index}
 use Rattle.flags.specs.Flags.{warningNames}
-use Rattle.host_reader.specs.Reading.{field, stands, marked, twoOf, verdicts, statuses, warnings, headIn, rightHead, dataByte, dataLength, rightEnd, framed, heard, readReply}
+use Rattle.host_reader.specs.Reading.{field, stands, marked, twoOf, verdicts, statuses, warnings, headIn, rightHead, dataByte, dataLength, rightEnd, framed, messageOf, readReply}
 use Rattle.host_reader.specs.declared.ReplyRead.{ReplyRead}
 use Rattle.host_reader.specs.declared.ReplyRead.the-variants.{Reply, NotReply}
 
@@ -22,7 +22,11 @@ pub record Row : Type 0 where
 
 -- address, axis, OK, BUSY, the warning's place, the data's length
 abbrev says : List ℕ → ℕ → ℕ → Bool → Bool → ℕ → ℕ → Row
-says l a k ok busy w n = record { line = l; answer = Reply (record { address = a; axis = k; ok = ok; busy = busy; warning = w; length = n }) }
+says l a k ok busy w n = record {
+  line = l;
+  answer =
+      Reply (record { address = a; axis = k; ok = ok; busy = busy; warning = w; length = n });
+}
 
 abbrev none : String → Row
 none l = record { line = text l; answer = NotReply }
@@ -73,5 +77,6 @@ rows =
     ∷ []
 
 pub reply-cases : map (λ r. readReply (r .line)) rows ≡ map (λ r. r .answer) rows
-unfolding rows readReply framed marked stands field headIn rightHead heard twoOf verdicts statuses warnings warningNames dataLength dataByte rightEnd span index valueOf readPair total checksum text same
+unfolding rows readReply framed marked stands field headIn rightHead messageOf twoOf verdicts statuses warnings warningNames dataLength
+    dataByte rightEnd span index valueOf readPair total checksum text same
 reply-cases = refl

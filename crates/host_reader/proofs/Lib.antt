@@ -1,4 +1,4 @@
-pub mod Parts
+pub mod Fields
 pub mod Heads
 pub mod Answers
 pub mod Spelled

@@ -14,7 +14,7 @@ use Rattle.numbers.specs.Decimal.{lastDigit, digits, twoDigits}
 use Rattle.numbers.specs.Spelling.{Digit}
 use Rattle.numbers.proofs.Decimal.{digits-one, pair-spelled}
 use Rattle.flags.specs.Flags.{warningNames, bits, first}
-use Rattle.reply.specs.Parts.{warningAt}
+use Rattle.reply.specs.Pieces.{warningAt}
 use Rattle.reply.specs.Reply.{verdict, status, highest, body, ending, reply}
 use Rattle.reply.specs.declared.Head.{Head}
 use Rattle.reply.proofs.Texts.{highest-is, sum-wanted, sum-unwanted}
@@ -22,7 +22,7 @@ use Rattle.reply.proofs.Room.{reply-length}
 use Rattle.host_reader.specs.Spelling.{Address, Axis, Verdict, accepted, rejected, Status, idle, busy, Warning, fd, fq, fs, ft, fb, fp, fe, wr, Data, End, bare, summed}
 use Rattle.host_reader.specs.Spelling as spelling
 use Rattle.host_reader.specs.Reading.{readReply}
-use Rattle.host_reader.specs.declared.Heard.{Heard}
+use Rattle.host_reader.specs.declared.Message.{Message}
 use Rattle.host_reader.specs.declared.ReplyRead.the-variants.{Reply}
 use Rattle.host_reader.proofs.Replies.{reply-read}
 
@@ -34,8 +34,16 @@ abbrev pub highestPlace : ℕ → ℕ
 highestPlace m = placeOf (first (bits 8 m))
 
 -- what was put in
-abbrev pub heardOf : Head → List ℕ → Heard
-heardOf h words = record { address = h .address; axis = h .axis; ok = h .ok; busy = h .busy; warning = highestPlace (h .warnings); length = length words }
+abbrev pub heardOf : Head → List ℕ → Message
+heardOf h words = record {
+  address = h .address;
+  axis = h .axis;
+  ok = h .ok;
+  busy =
+      h .busy;
+  warning = highestPlace (h .warnings);
+  length = length words;
+}
 
 -- ---- the texts of the fields
 figure : (n : ℕ) → Digit 10 (48 + n % 10) (n % 10)
@@ -73,7 +81,8 @@ warning-spelled (suc (suc (suc (suc zero)))) = fb
 warning-spelled (suc (suc (suc (suc (suc zero))))) = fp
 warning-spelled (suc (suc (suc (suc (suc (suc zero)))))) = fe
 warning-spelled (suc (suc (suc (suc (suc (suc (suc zero))))))) = wr
-warning-spelled (suc (suc (suc (suc (suc (suc (suc (suc k)))))))) = rw (le-ltb (suc (suc (suc (suc (suc (suc (suc (suc k)))))))) 8 (omega arith)) Warning.none
+warning-spelled (suc (suc (suc (suc (suc (suc (suc (suc k)))))))) =
+    rw (le-ltb (suc (suc (suc (suc (suc (suc (suc (suc k)))))))) 8 (omega arith)) Warning.none
 
 highest-spelled : (m : ℕ) → Warning (highest m) (highestPlace m)
 highest-spelled m = rw (← highest-is m) (warning-spelled (first (bits 8 m)))
@@ -89,7 +98,8 @@ end-spelled true s = rw (sum-wanted true s refl) (summed (pair-spelled (checksum
 end-spelled false s = rw (sum-unwanted false s refl) bare
 
 -- ---- the whole
-module _ (h : Head) (sum : Bool) (words : List ℕ) (some : 1 ≤ h .address) (most : h .address ≤ 99) (one : h .axis ≤ 9) (said : Data words) (short : length words ≤ 74) where
+module _ (h : Head) (sum : Bool) (words : List ℕ) (some : 1 ≤ h .address) (most : h .address ≤ 99) (one : h .axis ≤ 9) (said : Data words)
+    (short : length words ≤ 74) where
   pub reply-spelled : spelling.Reply (reply h sum words) (heardOf h words)
   unfolding reply body
   reply-spelled =

@@ -21,12 +21,12 @@ use Rattle.numbers.proofs.Value.{digit-value, digit-below, digit-of}
 use Rattle.words.specs.Find.{index}
 use Rattle.host_reader.specs.Spelling.{Address, Axis, Data, begun, End}
 use Rattle.host_reader.specs.Spelling as spelling
-use Rattle.host_reader.specs.Reading.{field, stands, marked, twoOf, verdicts, statuses, warnings, headIn, rightHead, dataByte, dataLength, rightEnd, framed, heard, readReply, numberOf}
-use Rattle.host_reader.specs.declared.Heard.{Heard}
+use Rattle.host_reader.specs.Reading.{field, stands, marked, twoOf, verdicts, statuses, warnings, headIn, rightHead, dataByte, dataLength, rightEnd, framed, messageOf, readReply, numberOf}
+use Rattle.host_reader.specs.declared.Message.{Message}
 use Rattle.host_reader.specs.declared.Head.{Head}
 use Rattle.host_reader.specs.declared.ReplyRead.{ReplyRead}
 use Rattle.host_reader.specs.declared.ReplyRead.the-variants.{Reply, NotReply}
-use Rattle.host_reader.proofs.Parts.{both-digits, two-yes, two-no}
+use Rattle.host_reader.proofs.Fields.{both-digits, two-yes, two-no}
 use Rattle.host_reader.proofs.Answers.{whole}
 use Rattle.host_reader.proofs.Spelled.{Two, two, Four, four, verdict-read, verdict-of, verdict-two, status-read, status-of, status-four, warning-read, warning-of, warning-two, bytes-span, data-bytes, data-of, end-span, end-read, end-of}
 
@@ -42,7 +42,12 @@ some-data (begun w b) = omega arith
 
 two-digits : {c d t u : ℕ} → Digit 10 c t → Digit 10 d u → twoOf (valueOf c) (valueOf d) ≡ t * 10 + u
 unfolding twoOf
-two-digits {t = t} {u} x y = simp (digit-value (omega arith) x, digit-value (omega arith) y, lt-ltb t 10 (digit-below x), lt-ltb u 10 (digit-below y))
+two-digits {t = t} {u} x y = simp (
+  digit-value (omega arith) x,
+  digit-value (omega arith) y,
+  lt-ltb t 10 (digit-below x),
+  lt-ltb u 10 (digit-below y),
+)
 
 -- a line whose marks stand in their places, with its fields between them
 abbrev pub lineOf : ℕ → ℕ → ℕ → List ℕ → List ℕ → List ℕ → List ℕ → List ℕ
@@ -69,7 +74,8 @@ pub found : (c b k : ℕ) {v s w : List ℕ} (d e : List ℕ) → Two v → Four
 unfolding marked stands field headIn text same spaced
 found c b k d e two four two = record { marks = refl; head = refl; behind = refl; front = omega arith }
 
-module _ (c b k : ℕ) (v s w d e : List ℕ) (f : Found c b k v s w d e) (x : Data d) (end : End (spaced ((c ∷ b ∷ []) ∷ (k ∷ []) ∷ v ∷ s ∷ w ∷ d ∷ [])) e) where
+module _ (c b k : ℕ) (v s w d e : List ℕ) (f : Found c b k v s w d e) (x : Data d)
+    (end : End (spaced ((c ∷ b ∷ []) ∷ (k ∷ []) ∷ v ∷ s ∷ w ∷ d ∷ [])) e) where
   abbrev l : List ℕ
   l = lineOf c b k v s w d ++ e
 
@@ -84,9 +90,10 @@ module _ (c b k : ℕ) (v s w d e : List ℕ) (f : Found c b k v s w d e) (x : D
       let back = drop-at (lineOf c b k v s w d) e (17 + length d) (f .front) in
       rw (size, f .marks, lt-ltb 17 (17 + length d) (omega (arith, some-data x)), f .behind, no-space e x, front, back) (end-read end)
 
-pub reply-read : {l : List ℕ} {h : Heard} → spelling.Reply l h → readReply l ≡ Reply h
-unfolding rightHead heard
-reply-read (spelling.reply {v = v} {s} {w} {d} {e} {i = i} (Address.two {c} {d = b} {t} {u} x y some) (Axis.one {c = k} {k = m} z) verdict status warning said end short) =
+pub reply-read : {l : List ℕ} {h : Message} → spelling.Reply l h → readReply l ≡ Reply h
+unfolding rightHead messageOf
+reply-read (spelling.reply {v = v} {s} {w} {d} {e} {i = i} (Address.two {c} {d = b} {t} {u} x y some)
+    (Axis.one {c = k} {k = m} z) verdict status warning said end short) =
     let f = found c b k d e (verdict-two verdict) (status-four status) (warning-two warning) in
     let address = two-digits x y in
     let axis = digit-value (omega arith) z in
@@ -94,7 +101,17 @@ reply-read (spelling.reply {v = v} {s} {w} {d} {e} {i = i} (Address.two {c} {d =
     let busy = status-read status in
     let flag = warning-read warning in
     let right : rightHead (headIn (lineOf c b k v s w d ++ e)) ≡ true
-    = rw (f .head, address, axis, flag .place, le-leb 1 (t * 10 + u) some, lt-ltb m 10 (digit-below z), lt-ltb _ 2 (ok .below), lt-ltb _ 2 (busy .below), lt-ltb i 9 (flag .below)) in
+    = rw (
+      f .head,
+      address,
+      axis,
+      flag .place,
+      le-leb 1 (t * 10 + u) some,
+      lt-ltb m 10 (digit-below z),
+      lt-ltb _ 2 (ok .below),
+      lt-ltb _ 2 (busy .below),
+      lt-ltb i 9 (flag .below),
+    ) in
     whole (lineOf c b k v s w d ++ e) short (and-both _ _ (frame c b k v s w d e f said end) right)
     ∙ ap Reply (rw (f .head, size c b k v s w d e f said end, address, axis, ok .says, busy .says, flag .place))
 
@@ -135,8 +152,8 @@ joined c b k v s w r n = simp (append-assoc, take-append-drop)
 -- fields, and r behind them, where r is data and an end
 composed : (c b k : ℕ) (v s w r : List ℕ) → Right (fieldsOf c b k v s w) → 0 < span dataByte r → (getD r 0 0 ≡ 32 → ⊥)
     → End (spaced ((c ∷ b ∷ []) ∷ (k ∷ []) ∷ v ∷ s ∷ w ∷ take (span dataByte r) r ∷ [])) (drop (span dataByte r) r)
-    → length (lineOf c b k v s w r) ≤ 96 → spelling.Reply (lineOf c b k v s w r) (heard (fieldsOf c b k v s w) (span dataByte r))
-unfolding heard
+    → length (lineOf c b k v s w r) ≤ 96 → spelling.Reply (lineOf c b k v s w r) (messageOf (fieldsOf c b k v s w) (span dataByte r))
+unfolding messageOf
 composed c b k v s w r h some first end short =
     let n = span dataByte r in
     let digits = two-some (valueOf c) (valueOf b) (h .address) in
@@ -191,7 +208,8 @@ framed-of l end t =
       gap2 = and-right (stands l 0 (text "@") && stands l 3 (text " ")) _ m3;
       gap3 = and-right (stands l 0 (text "@") && stands l 3 (text " ") && stands l 5 (text " ")) _ m4;
       gap4 = and-right (stands l 0 (text "@") && stands l 3 (text " ") && stands l 5 (text " ") && stands l 8 (text " ")) _ m5;
-      gap5 = and-right (stands l 0 (text "@") && stands l 3 (text " ") && stands l 5 (text " ") && stands l 8 (text " ") && stands l 13 (text " ")) _ marks;
+      gap5 = and-right (stands l 0 (text "@") && stands l 3 (text " ") && stands l 5 (text " ") && stands l 8 (text " ") && stands l 13
+          (text " ")) _ marks;
       some = ltb-true 17 end (and-right (marked l) (ltb 17 end) sized);
       begins = not-true (stands l 17 (text " ")) (and-right (marked l && ltb 17 end) _ begun);
       ends = end-of (drop 1 (take end l)) (drop end l) (and-right (marked l && ltb 17 end && not (stands l 17 (text " "))) _ t);
@@ -210,9 +228,14 @@ unfolding same text
 not-space [] t e = omega arith
 not-space (c ∷ r) t e = clash (rw (eq-eqb c 32 e)) t
 
-spelled : {l : List ℕ} → Long 17 l → length l ≤ 96 → Framed l (17 + dataLength l) → Right (headIn l) → spelling.Reply l (heard (headIn l) (dataLength l))
+spelled : {l : List ℕ} → Long 17 l → length l ≤ 96 → Framed l (17 + dataLength l) → Right (headIn l)
+    → spelling.Reply l (messageOf (headIn l) (dataLength l))
 unfolding stands field headIn dataLength text spaced
-spelled (more {c = c0} (more {c = c1} (more {c = c2} (more {c = c3} (more {c = c4} (more {c = c5} (more {c = c6} (more {c = c7} (more {c = c8} (more {c = c9} (more {c = c10} (more {c = c11} (more {c = c12} (more {c = c13} (more {c = c14} (more {c = c15} (more {c = c16} (enough {l = r})))))))))))))))))) short f h =
+spelled (more {c = c0} (more {c = c1} (more {c = c2}
+    (more {c = c3} (more {c = c4} (more {c = c5} (more {c = c6}
+    (more {c = c7} (more {c = c8} (more {c = c9} (more {c = c10}
+    (more {c = c11} (more {c = c12} (more {c = c13} (more {c = c14} (more {c = c15} (more {c = c16} (enough {l = r})))))))))))))))))) short
+    f h =
     let n = span dataByte r in
     let l = c0 ∷ c1 ∷ c2 ∷ c3 ∷ c4 ∷ c5 ∷ c6 ∷ c7 ∷ c8 ∷ c9 ∷ c10 ∷ c11 ∷ c12 ∷ c13 ∷ c14 ∷ c15 ∷ c16 ∷ r in
     let ends = rw (take-add 17 n l, ← drop-drop n 17 l) at (f .ends) in
@@ -223,9 +246,10 @@ spelled (more {c = c0} (more {c = c1} (more {c = c2} (more {c = c3} (more {c = c
     let e13 : c13 ≡ 32 = byte-is c13 32 (f .gap4) in
     let e16 : c16 ≡ 32 = byte-is c16 32 (f .gap5) in
     rw (e0, e3, e5, e8, e13, e16)
-    (composed c1 c2 c4 (c6 ∷ c7 ∷ []) (c9 ∷ c10 ∷ c11 ∷ c12 ∷ []) (c14 ∷ c15 ∷ []) r h (omega (arith, f .some)) (not-space r (f .begins)) (rw (e3, e5, e8, e13, e16) at ends) short)
+    (composed c1 c2 c4 (c6 ∷ c7 ∷ []) (c9 ∷ c10 ∷ c11 ∷ c12 ∷ []) (c14 ∷ c15 ∷ []) r h (omega (arith, f .some)) (not-space r (f .begins))
+    (rw (e3, e5, e8, e13, e16) at ends) short)
 
-pub reply-of : (l : List ℕ) (h : Heard) → readReply l ≡ Reply h → spelling.Reply l h
+pub reply-of : (l : List ℕ) (h : Message) → readReply l ≡ Reply h → spelling.Reply l h
 unfolding readReply
 reply-of l h e = go (leb (length l) 96 && framed l (17 + dataLength l) && rightHead (headIn l)) refl
   where
@@ -234,24 +258,25 @@ reply-of l h e = go (leb (length l) 96 && framed l (17 + dataLength l) && rightH
         let both = and-left (leb (length l) 96 && framed l (17 + dataLength l)) (rightHead (headIn l)) q in
         let f = framed-of l (17 + dataLength l) (and-right (leb (length l) 96) (framed l (17 + dataLength l)) both) in
         let right = right-of (headIn l) (and-right (leb (length l) 96 && framed l (17 + dataLength l)) (rightHead (headIn l)) q) in
-        let same : heard (headIn l) (dataLength l) ≡ h = cc (rw q at e) in
-        rw (← same) (spelled (long 17 l (reaches l 16 (f .gap5))) (leb-true (length l) 96 (and-left (leb (length l) 96) (framed l (17 + dataLength l)) both)) f right)
+        let same : messageOf (headIn l) (dataLength l) ≡ h = cc (rw q at e) in
+        rw (← same) (spelled (long 17 l (reaches l 16 (f .gap5)))
+        (leb-true (length l) 96 (and-left (leb (length l) 96) (framed l (17 + dataLength l)) both)) f right)
     go false q = let z : _≡_ {A = ℕ} 0 1 = cc (rw q at e) in absurd (omega arith)
 
 -- ---- the theorem
-pub reply-iff : (l : List ℕ) (h : Heard) → spelling.Reply l h ↔ (readReply l ≡ Reply h)
+pub reply-iff : (l : List ℕ) (h : Message) → spelling.Reply l h ↔ (readReply l ≡ Reply h)
 reply-iff l h = (reply-read, reply-of l h)
 
-pub reply-one : {l : List ℕ} {h g : Heard} → spelling.Reply l h → spelling.Reply l g → h ≡ g
+pub reply-one : {l : List ℕ} {h g : Message} → spelling.Reply l h → spelling.Reply l g → h ≡ g
 reply-one p q = cc (reply-read p, reply-read q)
 
 -- "Otherwise NOTREPLY": where the rules write a line for no reply, and only there, the number is 30
-pub not-reply : (l : List ℕ) → ((h : Heard) → spelling.Reply l h → ⊥) → numberOf (readReply l) ≡ 30
+pub not-reply : (l : List ℕ) → ((h : Message) → spelling.Reply l h → ⊥) → numberOf (readReply l) ≡ 30
 not-reply l never = go (readReply l) refl
   where
     go : (r : ReplyRead) → readReply l ≡ r → numberOf r ≡ 30
     go (Reply h) e = absurd (never h (reply-of l h e))
     go NotReply e = refl
 
-pub no-spelling : (l : List ℕ) (h : Heard) → numberOf (readReply l) ≡ 30 → spelling.Reply l h → ⊥
+pub no-spelling : (l : List ℕ) (h : Message) → numberOf (readReply l) ≡ 30 → spelling.Reply l h → ⊥
 no-spelling l h e p = let y = rw (reply-read p) at e in omega arith

@@ -193,7 +193,8 @@ unfolding rightEnd text same
 end-read bare = refl
 end-read {s} (summed h) = sum-read h s refl
 
-summed-of : (s e : List ℕ) → (stands e 0 (text ":") && same (drop 3 e) (text "\r\n") && saysSum s (readPair (getD e 1 0) (getD e 2 0))) ≡ true → End s e
+summed-of : (s e : List ℕ) → (stands e 0 (text ":") && same (drop 3 e) (text "\r\n") && saysSum s (readPair (getD e 1 0) (getD e 2 0)))
+    ≡ true → End s e
 unfolding stands field text same
 summed-of s [] t = clash t refl
 summed-of s (a ∷ []) t = clash (and-right (same (a ∷ []) (text ":")) false (and-left _ _ t)) refl
@@ -212,6 +213,7 @@ pub end-of : (s e : List ℕ) → rightEnd s e ≡ true → End s e
 unfolding rightEnd
 end-of s e t = go (same e (text "\r\n")) refl t
   where
-    go : (b : Bool) → same e (text "\r\n") ≡ b → (b || (stands e 0 (text ":") && same (drop 3 e) (text "\r\n") && saysSum s (readPair (getD e 1 0) (getD e 2 0)))) ≡ true → End s e
+    go : (b : Bool) → same e (text "\r\n") ≡ b → (b ||
+        (stands e 0 (text ":") && same (drop 3 e) (text "\r\n") && saysSum s (readPair (getD e 1 0) (getD e 2 0)))) ≡ true → End s e
     go true h t = rw (same-true e (text "\r\n") h) bare
     go false h t = summed-of s e t

@@ -10,7 +10,7 @@ use Rattle.laws.specs.Text.{colon, text, same}
 use Rattle.numbers.specs.Reading.{valueOf, readPair, saysSum}
 use Rattle.words.specs.Find.{index}
 use Rattle.flags.specs.Flags.{warningNames}
-use Rattle.host_reader.specs.declared.Heard.{Heard}
+use Rattle.host_reader.specs.declared.Message.{Message}
 use Rattle.host_reader.specs.declared.Head.{Head}
 use Rattle.host_reader.specs.declared.ReplyRead.{ReplyRead}
 use Rattle.host_reader.specs.declared.ReplyRead.the-variants.{Reply, NotReply}
@@ -25,7 +25,8 @@ stands l i w = same (field l i (length w)) w
 -- `@`, and "single spaces between" the fields
 unfoldable pub marked : List ℕ → Bool
 marked l =
-    stands l 0 (text "@") && stands l 3 (text " ") && stands l 5 (text " ") && stands l 8 (text " ") && stands l 13 (text " ") && stands l 16 (text " ")
+    stands l 0 (text "@") && stands l 3 (text " ") && stands l 5 (text " ") && stands l 8 (text " ") && stands l 13
+    (text " ") && stands l 16 (text " ")
 
 -- the number that two decimal digits say; 0, which is no address, where one of them is none
 unfoldable pub twoOf : ℕ → ℕ → ℕ
@@ -72,14 +73,14 @@ rightEnd s e =
 unfoldable pub framed : List ℕ → ℕ → Bool
 framed l end = marked l && ltb 17 end && not (stands l 17 (text " ")) && rightEnd (drop 1 (take end l)) (drop end l)
 
-unfoldable pub heard : Head → ℕ → Heard
-heard h n =
+unfoldable pub messageOf : Head → ℕ → Message
+messageOf h n =
     record { address = h .address; axis = h .axis; ok = eqb (h .verdict) 1; busy = eqb (h .status) 1; warning = h .warning; length = n }
 
 -- "at most 96 bytes in all"
 unfoldable pub readReply : List ℕ → ReplyRead
 readReply l =
-    cond (leb (length l) 96 && framed l (17 + dataLength l) && rightHead (headIn l)) (Reply (heard (headIn l) (dataLength l))) NotReply
+    cond (leb (length l) 96 && framed l (17 + dataLength l) && rightHead (headIn l)) (Reply (messageOf (headIn l) (dataLength l))) NotReply
 
 -- document 01's number for each case of the answer: "Accepted is 0", and NOTREPLY is 30
 abbrev pub numberOf : ReplyRead → ℕ

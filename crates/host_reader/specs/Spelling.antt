@@ -1,4 +1,4 @@
--- How a reply is spelled: every rule composes a text from parts. Nothing here says how a reply is read.
+-- How a reply is spelled: every rule composes a text from smaller ones. Nothing here says how a reply is read.
 -- Read `rule : A → B → S s n` as: from an A and a B, the bytes s are a spelling S of n.
 use mathlib.Core.Bool.{Bool, true, false}
 use mathlib.Core.List.{List, [], _∷_, _++_}
@@ -8,7 +8,7 @@ use Rattle.laws.specs.Text.{space, text, spaced}
 use Rattle.numbers.specs.Checksum.{checksum}
 use Rattle.numbers.specs.Spelling.{Digit, HexPair}
 use Rattle.words.specs.Spelling.{WordByte}
-use Rattle.host_reader.specs.declared.Heard.{Heard}
+use Rattle.host_reader.specs.declared.Message.{Message}
 
 -- "address in two digits", "address 01 to 99"
 pub data Address : List ℕ → ℕ → Type 0 where
@@ -57,7 +57,9 @@ pub data End (s : List ℕ) : List ℕ → Type 0 where
 
 -- "`@`, address in two digits, axis, OK or RJ, IDLE or BUSY, highest warning or `--`, data; single spaces between";
 -- "at most 96 bytes in all"
-pub data Reply : List ℕ → Heard → Type 0 where
-  reply : {a k v s w d e : List ℕ} {n m i : ℕ} {ok busy : Bool} → Address a n → Axis k m → Verdict v ok → Status s busy → Warning w i → Data d
+pub data Reply : List ℕ → Message → Type 0 where
+  reply : {a k v s w d e : List ℕ} {n m i : ℕ} {ok busy : Bool} → Address a n → Axis k m → Verdict v ok → Status s busy → Warning w i
+      → Data d
       → End (spaced (a ∷ k ∷ v ∷ s ∷ w ∷ d ∷ [])) e → length (text "@" ++ spaced (a ∷ k ∷ v ∷ s ∷ w ∷ d ∷ []) ++ e) ≤ 96
-      → Reply (text "@" ++ spaced (a ∷ k ∷ v ∷ s ∷ w ∷ d ∷ []) ++ e) (record { address = n; axis = m; ok = ok; busy = busy; warning = i; length = length d })
+      → Reply (text "@" ++ spaced (a ∷ k ∷ v ∷ s ∷ w ∷ d ∷ []) ++ e)
+      (record { address = n; axis = m; ok = ok; busy = busy; warning = i; length = length d })

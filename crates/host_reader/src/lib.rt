@@ -3,9 +3,12 @@
 ghost use mathlib.Core.Path.{_≡_};
 ghost use Rattle.host_reader.specs.Reading.{dataByte};
 
+// "at most 96 bytes in all"
+pub const LONGEST: usize = 96;
+
 // What a reply says: OK or not, BUSY or not, its warning by the place from 1, 0 for `--`.
 // The data begins at byte 17 of the line, and has so many bytes.
-pub struct Heard {
+pub struct Message {
     pub address: u64,
     pub axis: u64,
     pub ok: bool,
@@ -15,7 +18,7 @@ pub struct Heard {
 }
 
 pub enum ReplyRead {
-    Reply(Heard),
+    Reply(Message),
     NotReply,
 }
 

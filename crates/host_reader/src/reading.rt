@@ -3,7 +3,7 @@
 ghost use mathlib.Core.Path.{_≡_};
 ghost use Prim.Native.Nat.{_+_};
 ghost use Rattle.host_reader.specs.Reading.{dataLength, rightEnd, framed, readReply};
-use crate::Heard;
+use crate::Message;
 use crate::ReplyRead;
 use crate::data_byte;
 use crate::reading::fields::byte_at;
@@ -63,7 +63,7 @@ pub fn read_reply(line: &[u8]) -> ReplyRead
     let end = data_end(line);
     let h = read_head(line);
     if is_framed(line, end) & right_head(h) {
-        return ReplyRead::Reply(Heard {
+        return ReplyRead::Reply(Message {
             address: h.address,
             axis: h.axis,
             ok: h.verdict == 1,

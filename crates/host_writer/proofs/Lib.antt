@@ -1,4 +1,4 @@
 pub mod Texts
-pub mod Phrases
+pub mod PhraseWords
 pub mod Fits
-pub mod Lines
+pub mod LineTexts

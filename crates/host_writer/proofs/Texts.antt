@@ -1,7 +1,7 @@
 -- A setting's name from the code's table, and the end of a message.
 -- Assumes nothing.
 use mathlib.Core.Path.{_≡_, refl, ap, _∙_}
-use mathlib.Core.List.{List, []}
+use mathlib.Core.List.{List, [], _++_}
 use Prim.Native.Nat.{ℕ, _≤_}
 use lib.ListN.{length, drop, drop-of-length-le}
 use Rattle.laws.specs.Text.{text}
@@ -13,7 +13,9 @@ use Rattle.host_writer.specs.Places.{placeOf}
 
 -- the table of names in the code
 abbrev pub table : List ℕ
-table = text "pos limit.min limit.max maxspeed accel driver.current.max driver.current.run driver.current.hold driver.dir encoder.index.count comm.address comm.alert comm.checksum system.access deviceid system.axiscount"
+table =
+    text "pos limit.min limit.max maxspeed accel driver.current.max driver.current.run driver.current.hold driver.dir "
+    ++ text "encoder.index.count comm.address comm.alert comm.checksum system.access deviceid system.axiscount"
 
 named : (s : Setting) → headWord (drop (placeOf s) (cut table)) ≡ nameOf s
 unfolding nameOf text cut isSpace noSpace grow headWord

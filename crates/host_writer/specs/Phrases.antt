@@ -1,4 +1,4 @@
--- A command by its first word, as the code parts the table; proofs/Phrases.antt shows that the words are the command's.
+-- A command by its first word, as the code parts the table; proofs/PhraseWords.antt shows that the words are the command's.
 -- Each of these has as many words as the command that it stands for.
 use mathlib.Core.List.{List, [], _∷_}
 use Prim.Native.Nat.{ℕ}
@@ -8,12 +8,12 @@ use Rattle.command.specs.Settings.{nameOf}
 use Rattle.phrase.specs.Types.{Command}
 use Rattle.phrase.specs.Types as types
 use Rattle.host_writer.specs.Rows.{targetWords}
-use Rattle.host_writer.specs.declared.rows.Plain.{Plain}
-use Rattle.host_writer.specs.declared.rows.Plain.the-variants.{Nothing, Home, Stop, Estop, Warnings, WarningsClear}
-use Rattle.host_writer.specs.declared.rows.Tool.{Tool}
-use Rattle.host_writer.specs.declared.rows.Tool.the-variants.{Storepos, StoreposAt, StoreposCurrent, ParkingState, Park, Unpark, Echo}
-use Rattle.host_writer.specs.declared.rows.Phrase.{Phrase}
-use Rattle.host_writer.specs.declared.rows.Phrase.the-variants.{OfPlain, OfTool, MoveTo, MoveVel, Get, Set}
+use Rattle.host_writer.specs.declared.phrases.Plain.{Plain}
+use Rattle.host_writer.specs.declared.phrases.Plain.the-variants.{Nothing, Home, Stop, Estop, Warnings, WarningsClear}
+use Rattle.host_writer.specs.declared.phrases.Tool.{Tool}
+use Rattle.host_writer.specs.declared.phrases.Tool.the-variants.{Storepos, StoreposAt, StoreposCurrent, ParkingState, Park, Unpark, Echo}
+use Rattle.host_writer.specs.declared.phrases.Phrase.{Phrase}
+use Rattle.host_writer.specs.declared.phrases.Phrase.the-variants.{OfPlain, OfTool, MoveTo, MoveVel, Get, Set}
 
 abbrev pub phraseOf : Command → Phrase
 phraseOf types.Nothing = OfPlain Nothing

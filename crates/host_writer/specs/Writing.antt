@@ -7,10 +7,12 @@ use lib.Dec.{eqb, ltb}
 use lib.ListN.{length, drop}
 use Rattle.laws.specs.Text.{text, spaced}
 use Rattle.laws.specs.Lists.{all}
-use Rattle.laws.specs.Refusals.{_when_, firstOf}
+use Rattle.laws.specs.Refusals.{_when_, firstOf, NOROOM, TOOLONG, BADDATA, ACCEPTED}
 use Rattle.numbers.specs.Checksum.{sumText}
 use Rattle.numbers.specs.Decimal.{digits, twoDigits}
+use Rattle.numbers.specs.Spelling.{highestAddress}
 use Rattle.words.specs.Cutting.{cut}
+use Rattle.line.specs.Spelling.{longestLine}
 use Rattle.command.specs.Settings.{readOnly}
 use Rattle.phrase.specs.Types.{Command, Nothing, Home, Stop, Estop, MoveTo, MoveVel, Get, Set, Storepos, StoreposAt, StoreposCurrent, Warnings, WarningsClear, ParkingState, Park, Unpark, Echo}
 use Rattle.host_writer.specs.Rows.{commandWords}
@@ -51,15 +53,15 @@ unfit Unpark message = false
 unfit Echo message = not (all dataByte message)
 
 unfoldable pub unspellable : ℕ → ℕ → Command → List ℕ → Bool
-unspellable address axis c message = ltb 99 address || ltb 9 axis || unfit c message
+unspellable address axis c message = ltb highestAddress address || ltb 9 axis || unfit c message
 
 -- "The command writer checks 20, 11, 2."
 unfoldable pub writerRefusal : ℕ → ℕ → Command → List ℕ → Bool → List ℕ → ℕ
 writerRefusal address axis c message sum b =
     firstOf
-    (20 when ltb (length b) 80
-    ∷ 11 when unspellable address axis c message
-    ∷ 2 when ltb 80 (length (lineText address axis c message sum))
+    (NOROOM when ltb (length b) longestLine
+    ∷ BADDATA when unspellable address axis c message
+    ∷ TOOLONG when ltb longestLine (length (lineText address axis c message sum))
     ∷ [])
 
 -- the answer, and what is in the buffer then
@@ -77,5 +79,5 @@ writeLine address axis c message sum b =
     let n = writerRefusal address axis c message sum b in
     let t = lineText address axis c message sum in
     cond (eqb n 0)
-    (outcome (record { number = 0; length = length t }) (t ++ drop (length t) b))
+    (outcome (record { number = ACCEPTED; length = length t }) (t ++ drop (length t) b))
     (outcome (record { number = n; length = 0 }) b)

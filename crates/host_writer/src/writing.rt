@@ -5,9 +5,18 @@ ghost use Rattle.laws.specs.Lists.{all};
 ghost use Rattle.host_reader.specs.Reading.{dataByte};
 ghost use Rattle.host_writer.specs.Writing.{unfit, unspellable, outcome, writeLine};
 use crate::Written;
-use crate::writing::linetext::put_line;
+use crate::lines::put_line;
 use buffer::put_text;
 use command::Command;
+use laws::ACCEPTED;
+use laws::BADDATA;
+use laws::NOROOM;
+use laws::TOOLONG;
+use line::LONGEST_LINE;
+use numbers::HIGHEST_ADDRESS;
+
+// The highest address, as wide as addresses are here.
+const HIGHEST: u64 = HIGHEST_ADDRESS as u64;
 
 // Has every byte of s a place in a message?
 fn is_plain(s: &[u8]) -> bool
@@ -35,10 +44,10 @@ fn is_unfit(c: Command, message: &[u8]) -> bool
 fn is_unspellable(address: u64, axis: u64, c: Command, message: &[u8]) -> bool
     ensures { λ r. ⌜ r ≡ unspellable address axis c (now (message .entry)) ⌝ }
 {
-    (99 < address) | (9 < axis) | is_unfit(c, message)
+    (HIGHEST < address) | (9 < axis) | is_unfit(c, message)
 }
 
-// The line is written into 81 bytes of its own first: where it ends beyond 80 there, it is too long, and the lent buffer
+// The line is written into one byte more than the longest first: where it ends beyond that length, it is too long, and the lent buffer
 // is still as it was. So no length is computed besides.
 pub fn write_command(
     buf: &mut [u8],
@@ -50,28 +59,29 @@ pub fn write_command(
 ) -> Written
     ensures { λ r. ⌜ outcome r (now (buf .exit)) ≡ writeLine address axis c (now (message .entry)) sum (now (buf .entry)) ⌝ }
 {
-    if buf.len() < 80 {
+    if buf.len() < LONGEST_LINE {
         return Written {
-            number: 20,
+            number: NOROOM,
             length: 0,
         };
     }
     if is_unspellable(address, axis, c, message) {
         return Written {
-            number: 11,
+            number: BADDATA,
             length: 0,
         };
     }
-    let mut line = [0; 81];
+    let mut line = [0; LONGEST_LINE + 1];
     let end = put_line(&mut line, address, axis, c, message, sum);
-    if 80 < end {
+    if LONGEST_LINE < end {
         return Written {
-            number: 2,
+            number: TOOLONG,
             length: 0,
         };
     }
     let length = put_text(buf, 0, &line[..end]);
-    Written { number: 0, length }
+    Written {
+        number: ACCEPTED,
+        length,
+    }
 }
-
-mod linetext;

@@ -34,7 +34,8 @@ part-le (c ∷ s) = go (eqb c LF) (part-le s)
 
 -- a byte before a text whose first part is known
 grown : (c : ℕ) (t : List ℕ) (b : Bool) → parts t ≡ take (firstPart t) t ∷ parts (drop (firstPart t) t)
-    → (0 < cond b 1 (suc (firstPart t))) × (cond b ((c ∷ []) ∷ parts t) (grow c (parts t)) ≡ take (cond b 1 (suc (firstPart t))) (c ∷ t) ∷ parts (drop (cond b 1 (suc (firstPart t))) (c ∷ t)))
+    → (0 < cond b 1 (suc (firstPart t))) × (cond b ((c ∷ []) ∷ parts t) (grow c (parts t)) ≡ take (cond b 1 (suc (firstPart t))) (c ∷ t)
+    ∷ parts (drop (cond b 1 (suc (firstPart t))) (c ∷ t)))
 unfolding grow
 grown c t true e = (omega arith, refl)
 grown c t false e = (omega arith, ap (grow c) e)
@@ -45,7 +46,8 @@ unfolding parts firstPart grow
 parts-more [] h = absurd (omega arith)
 parts-more (c ∷ []) h = go (eqb c LF)
   where
-    go : (b : Bool) → (0 < cond b 1 1) × (cond b ((c ∷ []) ∷ []) ((c ∷ []) ∷ []) ≡ take (cond b 1 1) (c ∷ []) ∷ parts (drop (cond b 1 1) (c ∷ [])))
+    go : (b : Bool) → (0 < cond b 1 1) × (cond b ((c ∷ []) ∷ []) ((c ∷ []) ∷ []) ≡ take (cond b 1 1) (c ∷ [])
+        ∷ parts (drop (cond b 1 1) (c ∷ [])))
     go true = (omega arith, refl)
     go false = (omega arith, refl)
 parts-more (c ∷ x ∷ s) h = grown c (x ∷ s) (eqb c LF) (parts-more (x ∷ s) (omega arith) .1)

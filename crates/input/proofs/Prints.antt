@@ -48,6 +48,7 @@ module _ (number long : ℕ) (s : List ℕ) {b o : List ℕ} {at r : ℕ} where
   unfolding answered
   answer-silent h w = rw (eq-eqb long 0 h) w
 
-  pub answer-reply : (long ≡ 0 → ⊥) → {n : ℕ} → n ≡ min long (length s) → Wrote b at (take n s) o r → Wrote b at (answered number long s) o r
+  pub answer-reply : (long ≡ 0 → ⊥) → {n : ℕ} → n ≡ min long (length s) → Wrote b at (take n s) o r
+      → Wrote b at (answered number long s) o r
   unfolding answered
   answer-reply h {n} e w = rw (ne-eqb long 0 h, ← first-bytes n long s e) w

@@ -14,9 +14,10 @@ use Rattle.numbers.specs.declared.NumberRead.the-variants.{Value, Refused}
 use Rattle.numbers.specs.Reading.{readNumber}
 use Rattle.words.specs.Cutting.{cut, headWord, tailWords}
 use Rattle.words.proofs.Cut.{head-empty}
-use Rattle.line.specs.Reading.{printable, isFooter, most}
-use Rattle.input.specs.declared.reportline.ReportRead.{ReportRead}
-use Rattle.input.specs.declared.reportline.ReportRead.the-variants.{Misspelt}
+use Rattle.line.specs.Spelling.{longestLine}
+use Rattle.line.specs.Reading.{printable, isFooter}
+use Rattle.input.specs.declared.reports.ReportRead.{ReportRead}
+use Rattle.input.specs.declared.reports.ReportRead.the-variants.{Misspelt}
 use Rattle.input.specs.ReportLines.{numbersOf, reportWords, framed, readReport}
 
 -- a word that is missing is no number
@@ -28,7 +29,8 @@ no-last true (Value a) (Value k) = refl
 no-last false x y = refl
 
 -- the words ws, and those behind the first, the second, the third and the fourth of them
-module _ (ws t₁ t₂ t₃ : List (List ℕ)) (l : List ℕ) (e₁ : t₁ ≡ tailWords ws) (e₂ : t₂ ≡ tailWords t₁) (e₃ : t₃ ≡ tailWords t₂) (e₄ : cut l ≡ tailWords t₃) where
+module _ (ws t₁ t₂ t₃ : List (List ℕ)) (l : List ℕ) (e₁ : t₁ ≡ tailWords ws) (e₂ : t₂ ≡ tailWords t₁) (e₃ : t₃ ≡ tailWords t₂)
+    (e₄ : cut l ≡ tailWords t₃) where
   fourth : cut l ≡ tailWords (tailWords (tailWords (tailWords ws)))
   fourth = e₄ ∙ ap tailWords (e₃ ∙ ap tailWords (e₂ ∙ ap tailWords e₁))
 
@@ -44,13 +46,16 @@ module _ (ws t₁ t₂ t₃ : List (List ℕ)) (l : List ℕ) (e₁ : t₁ ≡ t
       go (r ∷ a ∷ k ∷ n ∷ []) h = absurd (h refl)
       go (r ∷ a ∷ k ∷ n ∷ x ∷ ws) h = refl
 
-  module _ {v w₀ : List ℕ} (q : v ≡ headWord (cut l)) (none : length v ≡ 0) (q₀ : w₀ ≡ headWord ws) {b : Bool} (r : b ≡ same w₀ (text "R")) where
+  module _ {v w₀ : List ℕ} (q : v ≡ headWord (cut l)) (none : length v ≡ 0) (q₀ : w₀ ≡ headWord ws) {b : Bool}
+      (r : b ≡ same w₀ (text "R")) where
     four : cond b (numbersOf (readNumber (headWord t₁)) (readNumber (headWord t₂)) (readNumber (headWord t₃))) Misspelt ≡ reportWords ws
     unfolding reportWords tailWords headWord
     four = rw (r, q₀, e₃, e₂, e₁) (go ws (sym fourth ∙ head-empty l (rw q at none)))
       where
         go : (ws : List (List ℕ)) → tailWords (tailWords (tailWords (tailWords ws))) ≡ []
-            → cond (same (headWord ws) (text "R")) (numbersOf (readNumber (headWord (tailWords ws))) (readNumber (headWord (tailWords (tailWords ws)))) (readNumber (headWord (tailWords (tailWords (tailWords ws)))))) Misspelt ≡ reportWords ws
+            → cond (same (headWord ws) (text "R"))
+            (numbersOf (readNumber (headWord (tailWords ws))) (readNumber (headWord (tailWords (tailWords ws))))
+            (readNumber (headWord (tailWords (tailWords (tailWords ws)))))) Misspelt ≡ reportWords ws
         go [] h = sym (no-last (same [] (text "R")) (readNumber []) (readNumber []))
         go (r ∷ []) h = sym (no-last (same r (text "R")) (readNumber []) (readNumber []))
         go (r ∷ a ∷ []) h = sym (no-last (same r (text "R")) (readNumber a) (readNumber []))
@@ -61,7 +66,8 @@ module _ (ws t₁ t₂ t₃ : List (List ℕ)) (l : List ℕ) (e₁ : t₁ ≡ t
     pub no-report : b ≡ false → Misspelt ≡ reportWords ws
     no-report h = rw h at four
 
-    pub a-report : {x y z : NumberRead} {w₁ w₂ w₃ : List ℕ} {n : ReportRead} → b ≡ true → w₁ ≡ headWord t₁ → x ≡ readNumber w₁ → w₂ ≡ headWord t₂ → y ≡ readNumber w₂
+    pub a-report : {x y z : NumberRead} {w₁ w₂ w₃ : List ℕ} {n : ReportRead} → b ≡ true → w₁ ≡ headWord t₁ → x ≡ readNumber w₁
+        → w₂ ≡ headWord t₂ → y ≡ readNumber w₂
         → w₃ ≡ headWord t₃ → z ≡ readNumber w₃ → n ≡ numbersOf x y z → n ≡ reportWords ws
     a-report h q₁ x q₂ y q₃ z n = n ∙ rw (x, q₁, y, q₂, z, q₃) (rw h at four)
 
@@ -75,10 +81,10 @@ module _ (s : List ℕ) {e : ℕ} (q : e ≡ span printable s) where
   footer-not h = rw (← q, h)
 
 module _ (s : List ℕ) where
-  pub too-long : most < length s → Misspelt ≡ readReport s
+  pub too-long : longestLine < length s → Misspelt ≡ readReport s
   unfolding readReport
-  too-long h = rw (lt-ltb most (length s) h)
+  too-long h = rw (lt-ltb longestLine (length s) h)
 
-  pub short : length s ≤ most → framed s ≡ readReport s
+  pub short : length s ≤ longestLine → framed s ≡ readReport s
   unfolding readReport
-  short h = rw (le-ltb most (length s) h)
+  short h = rw (le-ltb longestLine (length s) h)

@@ -11,9 +11,10 @@ use Rattle.numbers.specs.declared.NumberRead.{NumberRead}
 use Rattle.numbers.specs.declared.NumberRead.the-variants.{Value, Refused}
 use Rattle.numbers.specs.Reading.{readNumber}
 use Rattle.words.specs.Cutting.{cut}
-use Rattle.line.specs.Reading.{printable, isFooter, most}
-use Rattle.input.specs.declared.reportline.ReportRead.{ReportRead}
-use Rattle.input.specs.declared.reportline.ReportRead.the-variants.{Report, Misspelt}
+use Rattle.line.specs.Reading.{printable, isFooter}
+use Rattle.line.specs.Spelling.{longestLine}
+use Rattle.input.specs.declared.reports.ReportRead.{ReportRead}
+use Rattle.input.specs.declared.reports.ReportRead.the-variants.{Report, Misspelt}
 
 -- three numbers: axis, kind, and the last one
 abbrev pub numbersOf : NumberRead → NumberRead → NumberRead → ReportRead
@@ -36,4 +37,4 @@ unfoldable pub framed : List ℕ → ReportRead
 framed s = cond (isFooter (drop (span printable s) s)) (reportWords (cut (take (span printable s) s))) Misspelt
 
 unfoldable pub readReport : List ℕ → ReportRead
-readReport s = cond (ltb most (length s)) Misspelt (framed s)
+readReport s = cond (ltb longestLine (length s)) Misspelt (framed s)

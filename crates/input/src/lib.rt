@@ -2,4 +2,4 @@
 // The rules are in specs/. No record is known here.
 
 pub mod parts;
-pub mod reportline;
+pub mod reports;

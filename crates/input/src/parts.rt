@@ -9,6 +9,7 @@ ghost use Rattle.input.specs.Prints.{isReport, told, answered};
 use buffer::put_byte;
 use buffer::put_number;
 use buffer::put_text;
+use units::lesser;
 
 // The place behind the first LF from `at` on, or the end.
 pub fn part_end(s: &[u8], at: usize) -> usize
@@ -50,6 +51,6 @@ pub fn put_answer(out: &mut [u8], at: usize, number: u8, long: usize, reply: &[u
     if long == 0 {
         put_told(out, at, b"silent ", number)
     } else {
-        put_text(out, at, &reply[..reply::data::lesser(long, reply.len())])
+        put_text(out, at, &reply[..lesser(long, reply.len())])
     }
 }

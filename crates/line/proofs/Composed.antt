@@ -98,7 +98,8 @@ digit-printable {b} {c} {d} h (small l t e) = between c (omega arith) (omega ari
 
 pair-printable : {d : List ℕ} {n : ℕ} → HexPair d n → Passes printable d
 pair-printable (pair {h} {l} x y) =
-    pass-cons printable h (l ∷ []) (digit-printable (omega arith) x) (pass-cons printable l [] (digit-printable (omega arith) y) (span-none printable))
+    pass-cons printable h (l ∷ []) (digit-printable (omega arith) x)
+    (pass-cons printable l [] (digit-printable (omega arith) y) (span-none printable))
 
 sum-printable : {s k : List ℕ} → Checksum s k → Passes printable k
 unfolding text
@@ -130,7 +131,8 @@ sum-of c n s (x ∷ []) b e = let z : _≡_ {A = ℕ} 0 1 = cc in absurd (omega 
 sum-of c n s (x ∷ h ∷ []) b e = let z : _≡_ {A = ℕ} 0 1 = cc in absurd (omega arith)
 sum-of c n s (x ∷ h ∷ l ∷ []) b e = go (saysSum s (readPair h l)) refl e
   where
-    go : (t : Bool) → saysSum s (readPair h l) ≡ t → cond t (Frame.Content c) (Frame.Refused 3) ≡ Frame.Content n → Checksum s (x ∷ h ∷ l ∷ [])
+    go : (t : Bool) → saysSum s (readPair h l) ≡ t → cond t (Frame.Content c) (Frame.Refused 3) ≡ Frame.Content n
+        → Checksum s (x ∷ h ∷ l ∷ [])
     go true q r = rw (b (omega arith)) (Checksum.sum (says-pair s h l q))
     go false q r = let z : _≡_ {A = ℕ} 0 1 = cc in absurd (omega arith)
 sum-of c n s (x ∷ h ∷ l ∷ y ∷ r) b e = let z : _≡_ {A = ℕ} 0 1 = cc in absurd (omega arith)
@@ -151,12 +153,14 @@ pub data Parts : List ℕ → List (List ℕ) → Type 0 where
 module _ {s k f : List ℕ} (p : Plain s) (c : Checksum s k) (g : Footer f) where
   body-read : parted (s ++ k) ≡ Frame.Content (length s)
   unfolding parted
-  body-read = rw (pass-append noColon s k (plain-no-colon p) (sum-stops c), take-append-seam s k, drop-append-seam s k) (sum-yes (length s) c)
+  body-read = rw (pass-append noColon s k (plain-no-colon p) (sum-stops c), take-append-seam s k, drop-append-seam s k)
+      (sum-yes (length s) c)
 
   tail-read : afterSlash ((s ++ k) ++ f) ≡ Frame.Content (length s)
   tail-read =
       let x = s ++ k in
-      let e : length x ≡ span printable (x ++ f) = sym (pass-append printable x f (pass-both printable s k (plain-printable p) (sum-printable c)) (footer-stops g)) in
+      let e : length x ≡ span printable (x ++ f) =
+      sym (pass-append printable x f (pass-both printable s k (plain-printable p) (sum-printable c)) (footer-stops g)) in
       tail-yes (x ++ f) (length x) e (ap isFooter (drop-append-seam x f) ∙ footer-yes g) ∙ ap parted (take-append-seam x f) ∙ body-read
 
 -- where the line is read, its content is n bytes, and these are cut into ws
@@ -190,7 +194,8 @@ compose t e n h p c g len =
     let whole : take n x ++ drop n x ++ drop e t ≡ t = ap (λ (y : List ℕ). y ++ drop e t) (take-append-drop n x) ∙ take-append-drop e t in
     put whole (ap cut (take-take n e t h)) (cut-content p) c g len
   where
-    put : {s k f t : List ℕ} {ws vs : List (List ℕ)} → s ++ k ++ f ≡ t → ws ≡ vs → Content s ws → Checksum s k → Footer f → length (47 ∷ t) ≤ 80 → Parts (47 ∷ t) vs
+    put : {s k f t : List ℕ} {ws vs : List (List ℕ)} → s ++ k ++ f ≡ t → ws ≡ vs → Content s ws → Checksum s k → Footer f
+        → length (47 ∷ t) ≤ 80 → Parts (47 ∷ t) vs
     put q r s k f h = rw (← q, ← r) (parts s k f (rw q h))
 
 tail-of : (t : List ℕ) (n : ℕ) → length (47 ∷ t) ≤ 80 → afterSlash t ≡ Frame.Content n → Parts (47 ∷ t) (cut (take n t))
@@ -204,7 +209,8 @@ tail-of t n len q = go (isFooter (drop (span printable t) t)) refl
         let m = parted-fits x n r in
         let le : n ≤ e = omega (arith, m, span-le noColon x, length-take e t) in
         let j : Passes noColon (take n x) = rw m (front-passes noColon x) in
-        compose t e n le (plain-of (take n x) (take-passes printable n x (front-passes printable t)) j) (body-of x n r) (footer-of (drop e t) h) len
+        compose t e n le (plain-of (take n x) (take-passes printable n x (front-passes printable t)) j) (body-of x n r)
+        (footer-of (drop e t) h) len
     go false h = let z : _≡_ {A = ℕ} 0 1 = cc (tail-not t (span printable t) refl h) in absurd (omega arith)
 
 pub slash-cons : (l : List ℕ) → getD l 0 0 ≡ 47 → l ≡ 47 ∷ drop 1 l

@@ -36,7 +36,8 @@ use Rattle.line.proofs.Composed.{Parts, parts, parts-read, parts-of}
 -- ---- the words: address, axis, and those of the command
 
 -- no command's first word begins as a number or is an axis
-first-word : {ws : List (List ℕ)} {c : Command} {es : List (List ℕ)} → Row ws c es → (startsNumber (headWord ws) ≡ false) × (axisDigit (headWord ws) ≡ 99)
+first-word : {ws : List (List ℕ)} {c : Command} {es : List (List ℕ)} → Row ws c es → (startsNumber (headWord ws) ≡ false)
+    × (axisDigit (headWord ws) ≡ 99)
 unfolding startsNumber axisDigit headWord text valueOf
 first-word Row.nothing = (refl, refl)
 first-word Row.home = (refl, refl)
@@ -70,7 +71,8 @@ address-starts {w} (address u h) = go w (unsigned-first u)
     go : (w : List ℕ) → valueOf (getD w 0 0) < 10 → startsNumber w ≡ true
     go w v =
         let low = none-below (getD w 0 0) in
-        starts-digit w (filled w v) (λ (e : getD w 0 0 ≡ 43). omega (arith, low (omega arith))) (λ (e : getD w 0 0 ≡ 45). omega (arith, low (omega arith))) ∙ lt-ltb (valueOf (getD w 0 0)) 10 v
+        starts-digit w (filled w v) (λ (e : getD w 0 0 ≡ 43). omega (arith, low (omega arith)))
+        (λ (e : getD w 0 0 ≡ 45). omega (arith, low (omega arith))) ∙ lt-ltb (valueOf (getD w 0 0)) 10 v
 
 axis-read : {v : List ℕ} {k : ℕ} → AxisWord v k → (axisDigit v ≡ k) × (k < 10)
 unfolding axisDigit
@@ -80,7 +82,14 @@ words-read : {ws : List (List ℕ)} {a : Asked} → Words ws a → askedBy ws (r
 unfolding readWords axisOf headWord tailWords
 words-read (bare r) = rw (first-word r .0, row-read r, row-echo r)
 words-read (addressed {ws = ws} a r) = rw (address-starts a, address-read a, first-word r .1, row-read r, row-echo r)
-words-read (with-axis {k = k} a x r) = rw (address-starts a, address-read a, axis-read x .0, lt-ltb k 10 (axis-read x .1), row-read r, row-echo r)
+words-read (with-axis {k = k} a x r) = rw (
+  address-starts a,
+  address-read a,
+  axis-read x .0,
+  lt-ltb k 10 (axis-read x .1),
+  row-read r,
+  row-echo r,
+)
 
 -- what is read was written
 no-asked : {A : Type 0} {a : Asked} → none ≡ some a → A
@@ -101,7 +110,8 @@ record Told (n k skip : ℕ) (ws ts : List (List ℕ)) (a : Asked) : Type 0 wher
   row : Row ts command (echoOf command ts)
   is : asked n k command (echoOf command (drop skip ws)) ≡ a
 
-told : (n k skip : ℕ) (ws ts : List (List ℕ)) (a : Asked) (r : WordsRead) → readCommand ts ≡ r → askedBy ws (Addressed n k skip r) ≡ some a → Told n k skip ws ts a
+told : (n k skip : ℕ) (ws ts : List (List ℕ)) (a : Asked) (r : WordsRead) → readCommand ts ≡ r → askedBy ws (Addressed n k skip r) ≡ some a
+    → Told n k skip ws ts a
 told n k skip ws ts a (Read.Refused m) q e = no-asked e
 told n k skip ws ts a (Read.Command c) q e = record { command = c; row = row-of ts c q; is = cc }
 
@@ -135,7 +145,8 @@ together (parts c k f h) w = line c w k f h
 
 read-written : (l : List ℕ) (a : Asked) (f : Frame) → frameOf l ≡ f → askedBy (contentOf l f) (framed l f) ≡ some a → Line l a
 read-written l a (Frame.Refused n) q e = no-asked e
-read-written l a (Frame.Content n) q e = together (parts-of l n q) (words-of (cut (take n (drop 1 l))) a (startsNumber (headWord (cut (take n (drop 1 l))))) refl e)
+read-written l a (Frame.Content n) q e = together (parts-of l n q)
+    (words-of (cut (take n (drop 1 l))) a (startsNumber (headWord (cut (take n (drop 1 l))))) refl e)
 
 -- For every line and every command, the line is read as the command exactly when the spelling rules write that line for it.
 pub demand-3 : (l : List ℕ) (a : Asked) → Line l a ↔ (readAsked l ≡ some a)

@@ -1,4 +1,5 @@
--- Body and footer of a line as specs/Refusals.antt finds them, from its end; and that a line is so parted exactly where 1 does not refuse it.
+-- Body and footer of a line as specs/Refusals.antt finds them, from its end; and that a line is so parted exactly where 1 does
+-- not refuse it.
 -- Assumes nothing.
 use mathlib.Core.Path.{_≡_, refl, ap, _∙_}
 use mathlib.Core.Bool.{Bool, true, false, cond}
@@ -35,7 +36,8 @@ no-end c h = go (isEnd c) refl
 
 -- the size of the footer by the last two bytes, and the body by the size of the footer
 module _ (t : List ℕ) where
-  size-is : (i : ℕ) (a b : Bool) → length t - 1 ≡ i → isEnd (getD (47 ∷ t) (length t) 0) ≡ a → isEnd (getD (47 ∷ t) i 0) ≡ b → footerSize (47 ∷ t) ≡ cond a (cond b 2 1) 0
+  size-is : (i : ℕ) (a b : Bool) → length t - 1 ≡ i → isEnd (getD (47 ∷ t) (length t) 0) ≡ a → isEnd (getD (47 ∷ t) i 0) ≡ b
+      → footerSize (47 ∷ t) ≡ cond a (cond b 2 1) 0
   unfolding footerSize
   size-is i a b e p q =
       let last : length (47 ∷ t) - 1 ≡ length t = omega arith in
@@ -62,7 +64,8 @@ foot-size b k (Footer.two {c} {d} h g) =
     let n = length-append b (c ∷ d ∷ []) in
     let last : length t ≡ suc (length b + 1) = omega arith in
     let second : length t - 1 ≡ suc (length b + 0) = omega arith in
-    size-is t (suc (length b + 0)) true true second (ap (λ (i : ℕ). isEnd (getD (47 ∷ t) i 0)) last ∙ ap isEnd (at-end 47 b (c ∷ d ∷ []) 1) ∙ end-yes g)
+    size-is t (suc (length b + 0)) true true second
+    (ap (λ (i : ℕ). isEnd (getD (47 ∷ t) i 0)) last ∙ ap isEnd (at-end 47 b (c ∷ d ∷ []) 1) ∙ end-yes g)
     (ap isEnd (at-end 47 b (c ∷ d ∷ []) 0) ∙ end-yes h)
 
 footer-some : {f : List ℕ} → Footer f → (length f ≡ 0 → ⊥)
@@ -95,7 +98,14 @@ last-two : (t : List ℕ) (n : ℕ) → length t ≡ suc (suc n) → drop n t �
 last-two t n h = let k : n < length t = omega arith in rw (drop-cons t n 0 k, last-one t (suc n) h)
 
 split-at : (t : List ℕ) (n : ℕ) (f : List ℕ) → drop n t ≡ f → Footer f → all printable (take n t) ≡ true → Split t
-split-at t n f q g e = record { front = take n t; back = drop n t; whole = take-append-drop n t; passes = all-passes printable (take n t) e; footer = rw q g }
+split-at t n f q g e = record {
+  front = take n t;
+  back = drop n t;
+  whole =
+      take-append-drop n t;
+  passes = all-passes printable (take n t) e;
+  footer = rw q g;
+}
 
 split-size : (t : List ℕ) (i : ℕ) (a b : Bool) → length t - 1 ≡ i → isEnd (getD (47 ∷ t) (length t) 0) ≡ a → isEnd (getD (47 ∷ t) i 0) ≡ b
     → eqb (footerSize (47 ∷ t)) 0 ≡ false → all printable (body (47 ∷ t)) ≡ true → Split t

@@ -39,7 +39,8 @@ axis-word (AxisWord.digit x) = digit-word (omega arith) x
 address-word : {w : List ℕ} {n : ℕ} → AddressWord w n → Word w
 address-word (address u h) = unsigned-word u
 
-unsummed : {s : List ℕ} {ws : List (List ℕ)} {a : Asked} → Content s ws → Words ws a → length (text "/" ++ s ++ text "\n") ≤ 80 → Line (text "/" ++ s ++ text "\n") a
+unsummed : {s : List ℕ} {ws : List (List ℕ)} {a : Asked} → Content s ws → Words ws a → length (text "/" ++ s ++ text "\n") ≤ 80
+    → Line (text "/" ++ s ++ text "\n") a
 unfolding text
 unsummed {s} c w h = rw (append-nil s) at (line c w Checksum.none (Footer.one End.lf) (rw (append-nil s) h))
 

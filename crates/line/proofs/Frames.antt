@@ -18,7 +18,8 @@ use Rattle.laws.proofs.Order.{lt-or-le}
 use Rattle.laws.proofs.Span.{span-le}
 use Rattle.numbers.specs.Reading.{readPair, saysSum}
 use Rattle.numbers.specs.declared.PairRead.{PairRead}
-use Rattle.line.specs.Reading.{printable, noColon, isEnd, isFooter, checked, parted, afterSlash, slashed, most, frameOf}
+use Rattle.line.specs.Reading.{printable, noColon, isEnd, isFooter, checked, parted, afterSlash, slashed, frameOf}
+use Rattle.line.specs.Spelling.{longestLine}
 use Rattle.line.specs.declared.Frame.{Frame}
 use Rattle.line.specs.declared.Frame.the-variants.{Content, Refused}
 
@@ -94,7 +95,8 @@ module _ (b : List ℕ) (c : ℕ) (at : c ≡ span noColon b) where
   unfolding parted
   not-3 h k =
       rw (← at)
-      (sum-other c (take c b) (drop c b) (λ (z : length (drop c b) ≡ 0). omega (arith, length-drop c b)) (λ (z : length (drop c b) ≡ 3). k (sym (length-drop c b) ∙ z)))
+      (sum-other c (take c b) (drop c b) (λ (z : length (drop c b) ≡ 0). omega (arith, length-drop c b))
+      (λ (z : length (drop c b) ≡ 3). k (sym (length-drop c b) ∙ z)))
 
   pub sum-is : (t : Bool) {p : PairRead} → length b - c ≡ 3 → p ≡ readPair (getD b (c + 1) 0) (getD b (c + 2) 0) → t ≡ saysSum (take c b) p
       → parted b ≡ cond t (Content c) (Refused 3)
@@ -126,24 +128,24 @@ module _ (t : List ℕ) (e : ℕ) (at : e ≡ span printable t) where
   tail-fits = rw at (span-le printable t)
 
 module _ (l : List ℕ) where
-  pub too-long : most < length l → frameOf l ≡ Refused 2
+  pub too-long : longestLine < length l → frameOf l ≡ Refused 2
   unfolding frameOf
-  too-long h = rw (lt-ltb most (length l) h)
+  too-long h = rw (lt-ltb longestLine (length l) h)
 
 pub empty : (l : List ℕ) → length l ≡ 0 → frameOf l ≡ Refused 1
 unfolding frameOf slashed
 empty [] h = refl
 empty (x ∷ l) h = absurd (omega arith)
 
-pub no-slash : (l : List ℕ) → length l ≤ most → (getD l 0 0 ≡ 47 → ⊥) → frameOf l ≡ Refused 1
+pub no-slash : (l : List ℕ) → length l ≤ longestLine → (getD l 0 0 ≡ 47 → ⊥) → frameOf l ≡ Refused 1
 unfolding frameOf slashed
 no-slash [] h e = refl
-no-slash (x ∷ l) h e = rw (le-ltb most (length (x ∷ l)) h, ne-eqb x 47 e)
+no-slash (x ∷ l) h e = rw (le-ltb longestLine (length (x ∷ l)) h, ne-eqb x 47 e)
 
-pub slash-first : (l : List ℕ) → length l ≤ most → getD l 0 0 ≡ 47 → frameOf l ≡ afterSlash (drop 1 l)
+pub slash-first : (l : List ℕ) → length l ≤ longestLine → getD l 0 0 ≡ 47 → frameOf l ≡ afterSlash (drop 1 l)
 unfolding frameOf slashed
 slash-first [] h e = absurd (omega arith)
-slash-first (x ∷ l) h e = rw (le-ltb most (length (x ∷ l)) h, eq-eqb x 47 e)
+slash-first (x ∷ l) h e = rw (le-ltb longestLine (length (x ∷ l)) h, eq-eqb x 47 e)
 
 -- a content that is found lies within its line
 checked-fits : (c n : ℕ) (b r : List ℕ) → checked c b r ≡ Content n → n ≡ c
@@ -171,7 +173,8 @@ tail-content : (t : List ℕ) (n : ℕ) → afterSlash t ≡ Content n → n < l
 unfolding afterSlash
 tail-content t n e = go (isFooter (drop (span printable t) t)) refl e
   where
-    go : (b : Bool) → isFooter (drop (span printable t) t) ≡ b → cond b (parted (take (span printable t) t)) (Refused 1) ≡ Content n → n < length t
+    go : (b : Bool) → isFooter (drop (span printable t) t) ≡ b → cond b (parted (take (span printable t) t)) (Refused 1) ≡ Content n
+        → n < length t
     go true f e =
         let x = take (span printable t) t in
         omega (arith, parted-fits x n e, span-le noColon x, length-take (span printable t) t, footer-some t (span printable t) f)
@@ -187,10 +190,11 @@ slashed-content (c ∷ t) n e = go (eqb c slash) e
     go false e = let z : _≡_ {A = ℕ} 0 1 = cc in absurd (omega arith)
 
 -- a content stands between the `/` and the footer of a line that is not too long
-pub content-fits : (l : List ℕ) {r : Frame} (n : ℕ) → r ≡ frameOf l → r ≡ Content n → (n + 1 < length l) × (length l ≤ most)
+pub content-fits : (l : List ℕ) {r : Frame} (n : ℕ) → r ≡ frameOf l → r ≡ Content n → (n + 1 < length l) × (length l ≤ longestLine)
 unfolding frameOf
-content-fits l n q h = go (ltb most (length l)) refl (sym q ∙ h)
+content-fits l n q h = go (ltb longestLine (length l)) refl (sym q ∙ h)
   where
-    go : (b : Bool) → ltb most (length l) ≡ b → cond b (Refused 2) (slashed l) ≡ Content n → (n + 1 < length l) × (length l ≤ most)
+    go : (b : Bool) → ltb longestLine (length l) ≡ b → cond b (Refused 2) (slashed l) ≡ Content n → (n + 1 < length l)
+        × (length l ≤ longestLine)
     go true f e = let z : _≡_ {A = ℕ} 0 1 = cc in absurd (omega arith)
-    go false f e = (slashed-content l n e, ltb-false most (length l) f)
+    go false f e = (slashed-content l n e, ltb-false longestLine (length l) f)

@@ -44,14 +44,16 @@ addressed-number n k skip (Read.Refused m) = refl
 abbrev fromWords : List (List ℕ) → ℕ
 fromWords ws = firstOf (4 when badAddress ws ∷ 10 when badCommand (own ws) ∷ 11 when badData (own ws) ∷ [])
 
-axis-refused : (w : List ℕ) (n : ℕ) (t : List (List ℕ)) (b : Bool) → startsNumber w ≡ true → readAddress w ≡ Unsigned.Value n → ltb (axisDigit (headWord t)) 10 ≡ b
+axis-refused : (w : List ℕ) (n : ℕ) (t : List (List ℕ)) (b : Bool) → startsNumber w ≡ true → readAddress w ≡ Unsigned.Value n
+    → ltb (axisDigit (headWord t)) 10 ≡ b
     → numberOf (axisOf n t) ≡ fromWords (w ∷ t)
 unfolding axisOf badAddress own wordsRefusal firstOf headWord tailWords
 axis-refused w n t false s q e = simp (s, q, e) (addressed-number n 0 1 (readCommand t) ∙ words-refused t)
 axis-refused w n [] true s q e = simp (s, q, e) (addressed-number n (axisDigit []) 2 (readCommand []) ∙ words-refused [])
 axis-refused w n (v ∷ t) true s q e = simp (s, q, e) (addressed-number n (axisDigit v) 2 (readCommand t) ∙ words-refused t)
 
-words-at : (w : List ℕ) (t : List (List ℕ)) (u : UnsignedRead) → startsNumber w ≡ true → readAddress w ≡ u → readWords (w ∷ t) ≡ addressOf u t
+words-at : (w : List ℕ) (t : List (List ℕ)) (u : UnsignedRead) → startsNumber w ≡ true → readAddress w ≡ u
+    → readWords (w ∷ t) ≡ addressOf u t
 unfolding readWords headWord tailWords
 words-at w t u h q = simp (h, q)
 
@@ -80,7 +82,8 @@ module _ (l : List ℕ) (fits : length l ≤ 80) where
   unfolding readLine refusalOf firstOf tooLong
   sum-refused q e k = simp (q, le-ltb 80 (length l) fits, e, k)
 
-  words-answered : (n : ℕ) → frameOf l ≡ Frame.Content n → notLine l ≡ false → badSum (body l) ≡ false → take n (drop 1 l) ≡ content (body l)
+  words-answered : (n : ℕ) → frameOf l ≡ Frame.Content n → notLine l ≡ false → badSum (body l) ≡ false
+      → take n (drop 1 l) ≡ content (body l)
       → numberOf (readLine l) ≡ refusalOf l
   unfolding readLine refusalOf firstOf tooLong
   words-answered n q e k c = simp (q, le-ltb 80 (length l) fits, e, k, c) (words-number (cut (content (body l))) _ refl)
@@ -94,18 +97,21 @@ module _ (b f : List ℕ) (k : Passes printable b) (g : Footer f) (fits : length
   frame-is : frameOf (47 ∷ (b ++ f)) ≡ parted b
   frame-is =
       let e : length b ≡ span printable (b ++ f) = sym (pass-append printable b f k (footer-stops g)) in
-      slash-first (47 ∷ (b ++ f)) fits refl ∙ tail-yes (b ++ f) (length b) e (ap isFooter (drop-append-seam b f) ∙ footer-yes g) ∙ ap parted (take-append-seam b f)
+      slash-first (47 ∷ (b ++ f)) fits refl ∙ tail-yes (b ++ f) (length b) e (ap isFooter (drop-append-seam b f) ∙ footer-yes g)
+      ∙ ap parted (take-append-seam b f)
 
   body-refused : Sums b → numberOf (readLine (47 ∷ (b ++ f))) ≡ refusalOf (47 ∷ (b ++ f))
   body-refused (bad h q) = sum-refused (47 ∷ (b ++ f)) fits (frame-is ∙ q) (is-line b f k g) (rw (body-is b f k g) h)
   body-refused (good n h q m c) =
-      words-answered (47 ∷ (b ++ f)) fits n (frame-is ∙ q) (is-line b f k g) (rw (body-is b f k g) h) (take-append-le n b f m ∙ rw (body-is b f k g) c)
+      words-answered (47 ∷ (b ++ f)) fits n (frame-is ∙ q) (is-line b f k g) (rw (body-is b f k g) h)
+      (take-append-le n b f m ∙ rw (body-is b f k g) c)
 
 split-refused : (t : List ℕ) → Split t → length (47 ∷ t) ≤ 80 → numberOf (readLine (47 ∷ t)) ≡ refusalOf (47 ∷ t)
 split-refused t s h = rw (← s .whole) (body-refused (s .front) (s .back) (s .passes) (s .footer) (rw (s .whole) h) (sums (s .front)))
 
 -- where 1 refuses, no footer stands behind the printable bytes
-footer-missing : (t : List ℕ) (b : Bool) → notLine (47 ∷ t) ≡ true → isFooter (drop (span printable t) t) ≡ b → afterSlash t ≡ Frame.Refused 1
+footer-missing : (t : List ℕ) (b : Bool) → notLine (47 ∷ t) ≡ true → isFooter (drop (span printable t) t) ≡ b
+    → afterSlash t ≡ Frame.Refused 1
 footer-missing t false e h = tail-not t (span printable t) refl h
 footer-missing t true e h =
     let n = span printable t in
@@ -119,7 +125,8 @@ slash-refused t true e h = not-line-refused (47 ∷ t) h (slash-first (47 ∷ t)
 pub line-refused : (l : List ℕ) → numberOf (readLine l) ≡ refusalOf l
 line-refused l =
     ⊎-elim (λ h. too-long-refused l h)
-    (λ h. ⊎-elim (λ k. with-slash (drop 1 l) (slash-cons l k) h) (λ k. not-line-refused l h (no-slash l h k) (slash-missing l h k)) (eq-or-ne (getD l 0 0) 47))
+    (λ h. ⊎-elim (λ k. with-slash (drop 1 l) (slash-cons l k) h) (λ k. not-line-refused l h (no-slash l h k) (slash-missing l h k))
+    (eq-or-ne (getD l 0 0) 47))
     (lt-or-le 80 (length l))
   where
     with-slash : (t : List ℕ) → l ≡ 47 ∷ t → length l ≤ 80 → numberOf (readLine l) ≡ refusalOf l

@@ -31,7 +31,8 @@ unfolding startsNumber
 starts-minus [] k h = absurd (omega arith)
 starts-minus (c ∷ w) k h = rw (ne-eqb c 43 k, eq-eqb c 45 h)
 
-pub starts-digit : (w : List ℕ) → (length w ≡ 0 → ⊥) → (getD w 0 0 ≡ 43 → ⊥) → (getD w 0 0 ≡ 45 → ⊥) → startsNumber w ≡ ltb (valueOf (getD w 0 0)) 10
+pub starts-digit : (w : List ℕ) → (length w ≡ 0 → ⊥) → (getD w 0 0 ≡ 43 → ⊥) → (getD w 0 0 ≡ 45 → ⊥)
+    → startsNumber w ≡ ltb (valueOf (getD w 0 0)) 10
 unfolding startsNumber
 starts-digit [] h k j = absurd (h refl)
 starts-digit (c ∷ w) h k j = rw (ne-eqb c 43 k, ne-eqb c 45 j)

@@ -60,7 +60,8 @@ module _ (b : List ℕ) (n : ℕ) (is : n ≡ span noColon b) (h : n < length b)
       let p : length b - 3 ≡ n = omega arith in
       let x : all noColon b ≡ false = some-colon b (rw is at h) in
       good n (simp (x, sum-at, e)) (sum-is b n is true three refl (sym e)) (omega arith) (rw (x, p))
-  sums-at false e = let x : all noColon b ≡ false = some-colon b (rw is at h) in bad (simp (x, sum-at, e)) (sum-is b n is false three refl (sym e))
+  sums-at false e = let x : all noColon b ≡ false = some-colon b (rw is at h) in
+      bad (simp (x, sum-at, e)) (sum-is b n is false three refl (sym e))
 
 -- they do not: then no checksum stands at the end
 first-colon : (b : List ℕ) → checksumRight b ≡ true → length b - span noColon b ≡ 3
@@ -73,7 +74,8 @@ first-colon b e =
     let c : getD b m 0 ≡ 58 = eqb-true (getD b m 0) 58 (and-left (eqb (getD b m 0) 58) _ e2) in
     let a : Passes noColon s = all-passes noColon s (and-left (all noColon s) _ (and-right (eqb (getD b m 0) 58) _ e2)) in
     let k : m < length b = omega arith in
-    let d : span noColon (drop m b) ≡ 0 = rw (drop-cons b m 0 k) (span-not noColon (getD b m 0) (drop (suc m) b) (colon-not (getD b m 0) c)) in
+    let d : span noColon (drop m b) ≡ 0 = rw (drop-cons b m 0 k)
+    (span-not noColon (getD b m 0) (drop (suc m) b) (colon-not (getD b m 0) c)) in
     let q : span noColon b ≡ length s = ap (span noColon) (sym (take-append-drop m b)) ∙ pass-append noColon s (drop m b) a d in
     omega (arith, length-take m b)
 

@@ -16,7 +16,8 @@ unfolding Text.text Text.same Lists.span Checksum.total Checksum.checksum
 openBytes = 0
 
 unfoldable openNumbers : ℕ
-unfolding Number.valueOf Number.scan Number.digitsFrom Number.startsHex Number.unsignedFrom Number.readAddress Number.readNumber Number.readPair
+unfolding Number.valueOf Number.scan Number.digitsFrom Number.startsHex Number.unsignedFrom Number.readAddress Number.readNumber
+    Number.readPair
 openNumbers = 0
 
 unfoldable openWords : ℕ
@@ -24,11 +25,13 @@ unfolding Words.isSpace Words.noSpace Words.grow Words.cut Words.headWord Words.
 openWords = 0
 
 unfoldable openPhrase : ℕ
-unfolding Phrase.ended Phrase.oneNumber Phrase.readMove Phrase.readSetting Phrase.readGet Phrase.readSet Phrase.readStorepos Phrase.readParking Phrase.readTools Phrase.readWarnings Phrase.readCommand Phrase.echoOf
+unfolding Phrase.ended Phrase.oneNumber Phrase.readMove Phrase.readSetting Phrase.readGet Phrase.readSet Phrase.readStorepos
+    Phrase.readParking Phrase.readTools Phrase.readWarnings Phrase.readCommand Phrase.echoOf
 openPhrase = 0
 
 unfoldable openLine : ℕ
-unfolding Line.printable Line.noColon Line.isEnd Line.isFooter Line.checked Line.parted Line.afterSlash Line.slashed Line.frameOf Line.startsNumber Line.axisDigit Line.axisOf Line.readWords Line.readLine Line.wordsOf Line.readAsked
+unfolding Line.printable Line.noColon Line.isEnd Line.isFooter Line.checked Line.parted Line.afterSlash Line.slashed Line.frameOf
+    Line.startsNumber Line.axisDigit Line.axisOf Line.readWords Line.readLine Line.wordsOf Line.readAsked
 openLine = 0
 
 unfoldable pub reading : ℕ

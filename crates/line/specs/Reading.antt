@@ -8,7 +8,8 @@ use lib.Dec.{eqb, ltb, leb}
 use lib.ListN.{take, drop, length}
 use Rattle.laws.specs.Lists.{span}
 use Rattle.laws.specs.Text.{CR, LF, plus-sign, minus-sign, slash, colon}
-use Rattle.numbers.specs.Reading.{valueOf, readAddress, readPair, saysSum}
+use Rattle.laws.specs.Refusals.{TOOLONG, NOTLINE, BADSUM, BADADDRESS}
+use Rattle.numbers.specs.Reading.{noDigit, valueOf, readAddress, readPair, saysSum}
 use Rattle.numbers.specs.declared.UnsignedRead.{UnsignedRead}
 use Rattle.numbers.specs.declared.UnsignedRead.the-variants as Unsigned
 use Rattle.words.specs.Cutting.{cut, headWord, tailWords}
@@ -18,7 +19,7 @@ use Rattle.line.specs.declared.Frame.{Frame}
 use Rattle.line.specs.declared.Frame.the-variants as Frame
 use Rattle.line.specs.declared.LineRead.{LineRead}
 use Rattle.line.specs.declared.LineRead.the-variants.{Silent, Addressed}
-use Rattle.line.specs.Spelling.{Asked}
+use Rattle.line.specs.Spelling.{Asked, longestLine}
 
 -- ---- the frame: `/`, content, checksum, footer; 2, 1, 3
 
@@ -41,28 +42,24 @@ isFooter (c ∷ d ∷ e ∷ f) = false
 -- the content s, of n bytes, and what stands behind it from the first colon on: nothing, or its checksum
 unfoldable pub checked : ℕ → List ℕ → List ℕ → Frame
 checked n s [] = Frame.Content n
-checked n s (x ∷ []) = Frame.Refused 3
-checked n s (x ∷ h ∷ []) = Frame.Refused 3
-checked n s (x ∷ h ∷ l ∷ []) = cond (saysSum s (readPair h l)) (Frame.Content n) (Frame.Refused 3)
-checked n s (x ∷ h ∷ l ∷ y ∷ r) = Frame.Refused 3
+checked n s (x ∷ []) = Frame.Refused BADSUM
+checked n s (x ∷ h ∷ []) = Frame.Refused BADSUM
+checked n s (x ∷ h ∷ l ∷ []) = cond (saysSum s (readPair h l)) (Frame.Content n) (Frame.Refused BADSUM)
+checked n s (x ∷ h ∷ l ∷ y ∷ r) = Frame.Refused BADSUM
 
 unfoldable pub parted : List ℕ → Frame
 parted s = checked (span noColon s) (take (span noColon s) s) (drop (span noColon s) s)
 
 -- what is behind the `/`: printable bytes, and then the footer
 unfoldable pub afterSlash : List ℕ → Frame
-afterSlash t = cond (isFooter (drop (span printable t) t)) (parted (take (span printable t) t)) (Frame.Refused 1)
+afterSlash t = cond (isFooter (drop (span printable t) t)) (parted (take (span printable t) t)) (Frame.Refused NOTLINE)
 
 unfoldable pub slashed : List ℕ → Frame
-slashed [] = Frame.Refused 1
-slashed (c ∷ t) = cond (eqb c slash) (afterSlash t) (Frame.Refused 1)
-
--- "at most 80 bytes in all"
-abbrev pub most : ℕ
-most = 80
+slashed [] = Frame.Refused NOTLINE
+slashed (c ∷ t) = cond (eqb c slash) (afterSlash t) (Frame.Refused NOTLINE)
 
 unfoldable pub frameOf : List ℕ → Frame
-frameOf l = cond (ltb most (length l)) (Frame.Refused 2) (slashed l)
+frameOf l = cond (ltb longestLine (length l)) (Frame.Refused TOOLONG) (slashed l)
 
 -- ---- address and axis: 4
 
@@ -71,11 +68,11 @@ unfoldable pub startsNumber : List ℕ → Bool
 startsNumber [] = false
 startsNumber (c ∷ w) = eqb c plus-sign || (eqb c minus-sign || ltb (valueOf c) 10)
 
--- the digit that a word is, or 99
+-- the digit that a word is, or none
 unfoldable pub axisDigit : List ℕ → ℕ
-axisDigit [] = 99
+axisDigit [] = noDigit
 axisDigit (c ∷ []) = valueOf c
-axisDigit (c ∷ d ∷ w) = 99
+axisDigit (c ∷ d ∷ w) = noDigit
 
 -- the words behind the address n
 unfoldable pub axisOf : ℕ → List (List ℕ) → LineRead
@@ -85,7 +82,7 @@ axisOf n ws =
     (Addressed n 0 1 (readCommand ws))
 
 abbrev pub addressOf : UnsignedRead → List (List ℕ) → LineRead
-addressOf (Unsigned.Refused p) ws = Silent 4
+addressOf (Unsigned.Refused p) ws = Silent BADADDRESS
 addressOf (Unsigned.Value n) ws = axisOf n ws
 
 unfoldable pub readWords : List (List ℕ) → LineRead

@@ -7,12 +7,13 @@ use lib.Dec.{eqb, ltb, leb}
 use lib.ListN.{length, getD, take, drop}
 use Rattle.laws.specs.Lists.{all}
 use Rattle.laws.specs.Text.{slash, colon}
-use Rattle.laws.specs.Refusals.{_when_, firstOf}
+use Rattle.laws.specs.Refusals.{_when_, firstOf, TOOLONG, NOTLINE, BADSUM, BADADDRESS, BADCOMMAND, BADDATA}
 use Rattle.numbers.specs.Reading.{readAddress, readPair, saysSum}
 use Rattle.numbers.specs.declared.UnsignedRead.{UnsignedRead}
 use Rattle.numbers.specs.declared.UnsignedRead.the-variants as Unsigned
 use Rattle.words.specs.Cutting.{cut, headWord, tailWords}
 use Rattle.phrase.specs.Refusals.{badCommand, badData}
+use Rattle.line.specs.Spelling.{longestLine}
 use Rattle.line.specs.Reading.{printable, noColon, isEnd, startsNumber, axisDigit}
 
 -- how many bytes the footer has: "one or two bytes, each CR or LF", at the end; none where the last byte is neither
@@ -25,7 +26,7 @@ body l = take (length l - 1 - footerSize l) (drop 1 l)
 
 -- 2, "over 80 bytes"
 unfoldable pub tooLong : List ℕ → Bool
-tooLong l = ltb 80 (length l)
+tooLong l = ltb longestLine (length l)
 
 -- 1, "no `/` first, no footer, or a forbidden byte"
 unfoldable pub notLine : List ℕ → Bool
@@ -35,7 +36,8 @@ notLine l = not (eqb (getD l 0 0) slash) || (eqb (footerSize l) 0 || not (all pr
 unfoldable pub checksumRight : List ℕ → Bool
 checksumRight b =
     let s = take (length b - 3) b in
-    leb 3 (length b) && (eqb (getD b (length b - 3) 0) colon && (all noColon s && saysSum s (readPair (getD b (length b - 2) 0) (getD b (length b - 1) 0))))
+    leb 3 (length b) && (eqb (getD b (length b - 3) 0) colon &&
+    (all noColon s && saysSum s (readPair (getD b (length b - 2) 0) (getD b (length b - 1) 0))))
 
 -- 3, "colon out of place, bad digits or wrong sum"
 unfoldable pub badSum : List ℕ → Bool
@@ -62,10 +64,10 @@ unfoldable pub refusalOf : List ℕ → ℕ
 refusalOf l =
     let ws = cut (content (body l)) in
     firstOf
-    (2 when tooLong l
-    ∷ 1 when notLine l
-    ∷ 3 when badSum (body l)
-    ∷ 4 when badAddress ws
-    ∷ 10 when badCommand (own ws)
-    ∷ 11 when badData (own ws)
+    (TOOLONG when tooLong l
+    ∷ NOTLINE when notLine l
+    ∷ BADSUM when badSum (body l)
+    ∷ BADADDRESS when badAddress ws
+    ∷ BADCOMMAND when badCommand (own ws)
+    ∷ BADDATA when badData (own ws)
     ∷ [])

@@ -1,4 +1,4 @@
--- How a command line is spelled: every rule composes a text from parts. Nothing here says how a line is read.
+-- How a command line is spelled: every rule composes a text from smaller ones. Nothing here says how a line is read.
 -- Read `rule : A → B → S s n` as: from an A and a B, the bytes s are a spelling S of n.
 use mathlib.Core.List.{List, [], _∷_, _++_}
 use Prim.Native.Nat.{ℕ, _≤_}
@@ -44,6 +44,9 @@ pub data Words : List (List ℕ) → Asked → Type 0 where
       → Words (w ∷ v ∷ ws) (record { address = n; axis = k; command = c; echo = es })
 
 -- "A line is `/`, content, optional checksum, footer; at most 80 bytes in all."
+abbrev pub longestLine : ℕ
+longestLine = 80
+
 pub data Line : List ℕ → Asked → Type 0 where
   line : {s k f : List ℕ} {ws : List (List ℕ)} {a : Asked} → Content s ws → Words ws a → Checksum s k → Footer f
-      → length (text "/" ++ s ++ k ++ f) ≤ 80 → Line (text "/" ++ s ++ k ++ f) a
+      → length (text "/" ++ s ++ k ++ f) ≤ longestLine → Line (text "/" ++ s ++ k ++ f) a

@@ -3,6 +3,7 @@
 use mathlib.Core.List.{List, _∷_, _++_}
 use Prim.Native.Nat.{ℕ, _≤_}
 use Rattle.laws.specs.Text.{text, spaced}
+use Rattle.numbers.specs.Spelling.{highestAddress}
 use Rattle.numbers.specs.Decimal.{twoDigits, digits}
 use Rattle.phrase.specs.Writing.{commandWords, Spellable}
 use Rattle.line.specs.Spelling.{Asked}
@@ -15,6 +16,6 @@ lineFor a = text "/" ++ contentFor a ++ text "\n"
 
 -- its parts are in range: an address 0 to 99, an axis of one digit, a command that can be spelled
 pub record InRange (a : Asked) : Type 0 where
-  pub address : a .address ≤ 99
+  pub address : a .address ≤ highestAddress
   pub axis : a .axis ≤ 9
   pub command : Spellable (a .command) (a .echo)

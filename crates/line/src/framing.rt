@@ -4,6 +4,10 @@ ghost use mathlib.Core.Path.{_≡_};
 ghost use Rattle.laws.specs.Lists.{span};
 ghost use Rattle.line.specs.Reading.{printable, noColon, isEnd, isFooter, parted, afterSlash, frameOf};
 use crate::Frame;
+use crate::LONGEST_LINE;
+use laws::BADSUM;
+use laws::NOTLINE;
+use laws::TOOLONG;
 
 // How many bytes from the front are no forbidden ones.
 pub fn printable_len(s: &[u8]) -> usize
@@ -71,12 +75,12 @@ fn read_body(b: &[u8]) -> Frame
         return Frame::Content(c);
     }
     if b.len() - c != 3 {
-        return Frame::Refused(3);
+        return Frame::Refused(BADSUM);
     }
     if numbers::reading::says_sum(&b[..c], numbers::reading::read_pair(b[c + 1], b[c + 2])) {
         return Frame::Content(c);
     }
-    Frame::Refused(3)
+    Frame::Refused(BADSUM)
 }
 
 // The bytes behind the `/`.
@@ -87,21 +91,21 @@ fn read_tail(t: &[u8]) -> Frame
     if is_footer(&t[e..]) {
         return read_body(&t[..e]);
     }
-    Frame::Refused(1)
+    Frame::Refused(NOTLINE)
 }
 
 // The frame of a line.
 pub fn read_frame(s: &[u8]) -> Frame
     ensures { λ r. ⌜ r ≡ frameOf (now (s .entry)) ⌝ }
 {
-    if 80 < s.len() {
-        return Frame::Refused(2);
+    if LONGEST_LINE < s.len() {
+        return Frame::Refused(TOOLONG);
     }
     if s.len() == 0 {
-        return Frame::Refused(1);
+        return Frame::Refused(NOTLINE);
     }
     if s[0] != b'/' {
-        return Frame::Refused(1);
+        return Frame::Refused(NOTLINE);
     }
     read_tail(&s[1..])
 }

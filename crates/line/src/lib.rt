@@ -2,6 +2,9 @@
 // The spelling is in specs/Spelling.antt, and proofs/Demand3.antt shows that just that is read.
 use phrase::WordsRead;
 
+// "at most 80 bytes in all"
+pub const LONGEST_LINE: usize = 80;
+
 // What stands between `/` and footer: so many bytes of content; or the refusal 2, 1 or 3.
 pub enum Frame {
     Content(usize),

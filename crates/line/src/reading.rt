@@ -8,7 +8,10 @@ ghost use Rattle.line.specs.Refusals.{refusalOf};
 use crate::Frame;
 use crate::LineRead;
 use crate::framing::read_frame;
+use laws::BADADDRESS;
 use numbers::UnsignedRead;
+use numbers::digits::NO_DIGIT;
+use numbers::digits::digit_value;
 
 // Does the word begin with a digit or a sign?
 fn starts_number(w: &[u8]) -> bool
@@ -23,17 +26,17 @@ fn starts_number(w: &[u8]) -> bool
     if w[0] == b'-' {
         return true;
     }
-    numbers::reading::numeral::digit_value(w[0]) < 10
+    digit_value(w[0]) < 10
 }
 
-// The digit that the word is, or 99.
+// The digit that the word is, or none.
 fn axis_digit(w: &[u8]) -> u64
     ensures { λ r. ⌜ r ≡ axisDigit (now (w .entry)) ⌝ }
 {
     if w.len() == 1 {
-        return numbers::reading::numeral::digit_value(w[0]);
+        return digit_value(w[0]);
     }
-    99
+    NO_DIGIT
 }
 
 // The words behind the address n.
@@ -53,7 +56,7 @@ fn read_addressed(s: &[u8], at: usize, a: UnsignedRead) -> LineRead
     ensures { λ r. ⌜ r ≡ addressOf a (cut (drop at (now (s .entry)))) ⌝ }
 {
     match a {
-        UnsignedRead::Refused(_) => LineRead::Silent(4),
+        UnsignedRead::Refused(_) => LineRead::Silent(BADADDRESS),
         UnsignedRead::Value(n) => read_axis(s, at, n),
     }
 }

@@ -26,7 +26,8 @@ unfolding readNumber
 read-plus [] e = absurd (omega arith)
 read-plus (c ∷ s) e = rw (ne-eqb c 45 (λ (f : c ≡ 45). omega arith), eq-eqb c 43 e)
 
-pub read-bare : (w : List ℕ) → (length w ≡ 0 → ⊥) → (getD w 0 0 ≡ 45 → ⊥) → (getD w 0 0 ≡ 43 → ⊥) → readNumber w ≡ above (unsignedFrom 2147483647 0 w)
+pub read-bare : (w : List ℕ) → (length w ≡ 0 → ⊥) → (getD w 0 0 ≡ 45 → ⊥) → (getD w 0 0 ≡ 43 → ⊥)
+    → readNumber w ≡ above (unsignedFrom 2147483647 0 w)
 unfolding readNumber
 read-bare [] h e f = absurd (h refl)
 read-bare (c ∷ s) h e f = rw (ne-eqb c 45 e, ne-eqb c 43 f)

@@ -58,7 +58,8 @@ abbrev none : String → ℕ → Row UnsignedRead
 none w p = record { word = w; answer = Unsigned.Refused p }
 
 unfoldable pub addresses : List (Row UnsignedRead)
-addresses = at "0" 0 ∷ at "099" 99 ∷ at "0x63" 99 ∷ none "0x64" 3 ∷ none "100" 2 ∷ none "100x" 2 ∷ none "-1" 0 ∷ none "+1" 0 ∷ none "0x" 2 ∷ none "1a" 1 ∷ []
+addresses = at "0" 0 ∷ at "099" 99 ∷ at "0x63" 99 ∷ none "0x64" 3 ∷ none "100" 2 ∷ none "100x" 2 ∷ none "-1" 0 ∷ none "+1" 0 ∷ none "0x" 2
+    ∷ none "1a" 1 ∷ []
 
 pub address-cases : map (λ r. readAddress (text (r .word))) addresses ≡ map (λ r. r .answer) addresses
 unfolding addresses readAddress unsignedFrom startsHex digitsFrom scan valueOf text same

@@ -108,7 +108,8 @@ within-spelled zero n h = rw (within-small 0 n h) (one-spelled n h)
 within-spelled (suc k) n h =
     ⊎-elim (λ l. rw (within-small (suc k) n l) (one-spelled n l))
     (λ l. rw (within-large k n l)
-    (subst (Digits 10 (digitsWithin k (n / 10) ++ lastDigit n)) (div-add-mod' n 10) (Digits.more (within-spelled k (n / 10) (tenth k n h)) (figure n))))
+    (subst (Digits 10 (digitsWithin k (n / 10) ++ lastDigit n)) (div-add-mod' n 10)
+    (Digits.more (within-spelled k (n / 10) (tenth k n h)) (figure n))))
     (lt-or-le n 10)
 
 pub digits-spelled : (n : ℕ) → n < 10 ^ 20 → Digits 10 (digits n) n
@@ -119,7 +120,8 @@ digits-spelled n h = within-spelled 19 n h
 pub decimal-spelled : (z : ℤ) → SFits w32 z → NumberWord (decimal z) z
 unfolding decimal
 decimal-spelled (pos n) f = let h = f .sfits in NumberWord.bare (UnsignedWord.decimal (digits-spelled n (omega arith))) (omega arith)
-decimal-spelled (negsuc n) f = let h = f .sfits in NumberWord.minus (UnsignedWord.decimal (digits-spelled (suc n) (omega arith))) (omega arith)
+decimal-spelled (negsuc n) f = let h = f .sfits in
+    NumberWord.minus (UnsignedWord.decimal (digits-spelled (suc n) (omega arith))) (omega arith)
 
 -- an address in two digits is an address word
 pub two-spelled : (n : ℕ) → n ≤ 99 → Digits 10 (twoDigits n) n

@@ -30,7 +30,8 @@ scan-first b most n i c s v e =
     (lt-or-le (valueOf c) b)
 
 -- digits written behind each other are read one after the other
-scan-behind : (b most n i v : ℕ) (s : List ℕ) (c : ℕ) → scan b most n i s ≡ Value v → scan b most n i (s ++ c ∷ []) ≡ scan b most v (i + length s) (c ∷ [])
+scan-behind : (b most n i v : ℕ) (s : List ℕ) (c : ℕ) → scan b most n i s ≡ Value v
+    → scan b most n i (s ++ c ∷ []) ≡ scan b most v (i + length s) (c ∷ [])
 unfolding scan
 scan-behind b most n i v [] c e =
     let q : n ≡ v = cc in

@@ -48,7 +48,8 @@ unfolding text
 hex-front [] h = clash h hex-empty
 hex-front (a ∷ []) h = clash h (hex-one a)
 hex-front (a ∷ b ∷ s) h =
-    ⊎-elim (λ z. let x : b ≡ 120 = eqb-true b 120 (sym (hex-second b s) ∙ (rw z at h)) in ap₂ (λ (x y : ℕ). x ∷ y ∷ s) z x) (λ z. clash h (hex-not-0 a (b ∷ s) z)) (eq-or-ne a 48)
+    ⊎-elim (λ z. let x : b ≡ 120 = eqb-true b 120 (sym (hex-second b s) ∙ (rw z at h)) in ap₂ (λ (x y : ℕ). x ∷ y ∷ s) z x)
+    (λ z. clash h (hex-not-0 a (b ∷ s) z)) (eq-or-ne a 48)
 
 hex-starts : (s : List ℕ) → startsHex (text "0x" ++ s) ≡ true
 unfolding text
@@ -141,7 +142,8 @@ number-of (c ∷ s) v e =
     (λ m. ⊎-elim (λ p. let k = above-is (unsignedFrom 2147483647 1 s) v (sym (answers.read-plus (c ∷ s) p) ∙ e) in
     let u = unsigned-is 2147483647 1 s (k .0) (k .1) in
     rw (p, ← k .2) (plus (u .0) (u .1)))
-    (λ p. let k = above-is (unsignedFrom 2147483647 0 (c ∷ s)) v (sym (answers.read-bare (c ∷ s) (λ (z : length (c ∷ s) ≡ 0). omega arith) m p) ∙ e) in
+    (λ p. let k = above-is (unsignedFrom 2147483647 0 (c ∷ s)) v
+    (sym (answers.read-bare (c ∷ s) (λ (z : length (c ∷ s) ≡ 0). omega arith) m p) ∙ e) in
     let u = unsigned-is 2147483647 0 (c ∷ s) (k .0) (k .1) in
     rw (← k .2) (bare (u .0) (u .1)))
     (eq-or-ne c 43))

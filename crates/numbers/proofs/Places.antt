@@ -55,12 +55,14 @@ scan-stops b most n i (c ∷ s) p e =
         let q : i ≡ p = refused-is (sym (f s) ∙ e) in
         record { passed = 0; place = omega arith; stops = stops-here [] (n, refl) (λ t. f t ∙ ap Refused q) }
 
-    further : valueOf c < b → n * b + valueOf c ≤ most → StopsAt (scan b most (n * b + valueOf c) (suc i)) (suc i) s p → StopsAt (scan b most n i) i (c ∷ s) p
+    further : valueOf c < b → n * b + valueOf c ≤ most → StopsAt (scan b most (n * b + valueOf c) (suc i)) (suc i) s p
+        → StopsAt (scan b most n i) i (c ∷ s) p
     further h o r =
         record {
           passed = suc (r .passed);
           place = omega (arith, r .place);
-          stops = stops-behind c (λ x v. (v .0, scan-digit b most n i c x h o ∙ v .1)) (λ x v. scan-digit b most n i c x h o ∙ v) (r .stops);
+          stops = stops-behind c (λ x v. (v .0, scan-digit b most n i c x h o ∙ v .1)) (λ x v. scan-digit b most n i c x h o ∙ v)
+              (r .stops);
         }
 
 -- a nought is read in any base, so that it can always follow where a digit may
@@ -78,7 +80,8 @@ module _ (b most i : ℕ) (some : 0 < b) where
       record { passed = 0; place = omega arith; stops = stops-end (48 ∷ []) (0 * b + valueOf 48, nought) }
   digits-stops (c ∷ s) p e = go (scan-stops b most 0 i (c ∷ s) p e)
     where
-      at : (k : ℕ) → Stops (Reads (scan b most 0 i)) (Refuses (scan b most 0 i) p) (c ∷ s) k → Stops (Reads (digitsFrom b most i)) (Refuses (digitsFrom b most i) p) (c ∷ s) k
+      at : (k : ℕ) → Stops (Reads (scan b most 0 i)) (Refuses (scan b most 0 i) p) (c ∷ s) k
+          → Stops (Reads (digitsFrom b most i)) (Refuses (digitsFrom b most i) p) (c ∷ s) k
       at zero r = stops-here (48 ∷ []) (0 * b + valueOf 48, nought) (λ t. r .stays 1 (omega arith) (omega arith) t)
       at (suc k) r = stops-beyond (λ x v. v) (λ x v. v) r
 
@@ -95,7 +98,8 @@ module _ (most i : ℕ) where
         passed = suc (suc (r .passed));
         place = omega (arith, r .place);
         stops =
-            stops-behind {Y = λ x. Reads (unsignedFrom most i) (48 ∷ x)} {N = λ x. Refuses (unsignedFrom most i) p (48 ∷ x)} 48 (λ x v. v) (λ x v. v)
+            stops-behind {Y = λ x. Reads (unsignedFrom most i) (48 ∷ x)} {N = λ x. Refuses (unsignedFrom most i) p (48 ∷ x)} 48 (λ x v. v)
+            (λ x v. v)
             (stops-behind 120 (λ x v. (v .0, unsigned-hex most i (48 ∷ 120 ∷ x) (hex-second 120 x) ∙ v .1))
             (λ x v. unsigned-hex most i (48 ∷ 120 ∷ x) (hex-second 120 x) ∙ v) (r .stops));
       }
@@ -165,28 +169,36 @@ number-stops : (w : List ℕ) (p : ℕ) → readNumber w ≡ Number.Refused p �
 unfolding readNumber Reads Refuses
 number-stops [] p e =
     let z : 0 ≡ p = cc in
-    rw (← z) (stops-end (48 ∷ []) (bare-read (48 ∷ []) (0 * 10 + valueOf 48, unsigned-decimal 2147483647 0 (48 ∷ []) (hex-one 48) ∙ nought 10 2147483647 0 (omega arith))))
+    rw (← z) (stops-end (48 ∷ []) (bare-read (48 ∷ [])
+    (0 * 10 + valueOf 48, unsigned-decimal 2147483647 0 (48 ∷ []) (hex-one 48) ∙ nought 10 2147483647 0 (omega arith))))
 number-stops (c ∷ s) p e =
     ⊎-elim (λ m. let k = answers.read-minus (c ∷ s) m in
-    behind below (λ n. negℤ (pos n)) (λ n. refl) (λ q. refl) 2147483648 (λ x. answers.read-minus (c ∷ x) m) (below-refused (unsignedFrom 2147483648 1 s) p (sym k ∙ e)))
+    behind below (λ n. negℤ (pos n)) (λ n. refl) (λ q. refl) 2147483648 (λ x. answers.read-minus (c ∷ x) m)
+    (below-refused (unsignedFrom 2147483648 1 s) p (sym k ∙ e)))
     (λ m. ⊎-elim (λ q. let k = answers.read-plus (c ∷ s) q in
-    behind above (λ n. pos n) (λ n. refl) (λ q. refl) 2147483647 (λ x. answers.read-plus (c ∷ x) q) (above-refused (unsignedFrom 2147483647 1 s) p (sym k ∙ e)))
-    (λ q. let none : (x : List ℕ) → readNumber (c ∷ x) ≡ above (unsignedFrom 2147483647 0 (c ∷ x)) = λ x. answers.read-bare (c ∷ x) (λ (z : length (c ∷ x) ≡ 0). omega arith) m q in
+    behind above (λ n. pos n) (λ n. refl) (λ q. refl) 2147483647 (λ x. answers.read-plus (c ∷ x) q)
+    (above-refused (unsignedFrom 2147483647 1 s) p (sym k ∙ e)))
+    (λ q. let none : (x : List ℕ) → readNumber (c ∷ x) ≡ above (unsignedFrom 2147483647 0 (c ∷ x)) = λ x. answers.read-bare (c ∷ x)
+    (λ (z : length (c ∷ x) ≡ 0). omega arith) m q in
     plainly none (unsigned-stops 2147483647 0 (c ∷ s) p (above-refused (unsignedFrom 2147483647 0 (c ∷ s)) p (sym (none s) ∙ e))))
     (eq-or-ne c 43))
     (eq-or-ne c 45)
   where
     -- behind a sign
-    behind : (sign : UnsignedRead → NumberRead) (signed : ℕ → ℤ) → ((n : ℕ) → sign (Value n) ≡ Number.Value (record { 0 = signed n })) → ((q : ℕ) → sign (Refused q) ≡ Number.Refused q)
-        → (most : ℕ) → ((x : List ℕ) → readNumber (c ∷ x) ≡ sign (unsignedFrom most 1 x)) → unsignedFrom most 1 s ≡ Refused p → Stops NumberReads (NumberRefuses p) (c ∷ s) p
+    behind : (sign : UnsignedRead → NumberRead) (signed : ℕ → ℤ) → ((n : ℕ) → sign (Value n) ≡ Number.Value (record { 0 = signed n }))
+        → ((q : ℕ) → sign (Refused q) ≡ Number.Refused q)
+        → (most : ℕ) → ((x : List ℕ) → readNumber (c ∷ x) ≡ sign (unsignedFrom most 1 x)) → unsignedFrom most 1 s ≡ Refused p
+        → Stops NumberReads (NumberRefuses p) (c ∷ s) p
     behind sign signed value-is refused most reads r =
         let u = unsigned-stops most 1 s p r in
         let z : suc (u .passed) ≡ p = omega (arith, u .place) in
         subst (λ (k : ℕ). Stops NumberReads (NumberRefuses p) (c ∷ s) k) z
-        (stops-behind c (λ x v. (signed (v .0), reads x ∙ ap sign (v .1) ∙ value-is (v .0))) (λ x v. reads x ∙ ap sign v ∙ refused p) (u .stops))
+        (stops-behind c (λ x v. (signed (v .0), reads x ∙ ap sign (v .1) ∙ value-is (v .0))) (λ x v. reads x ∙ ap sign v ∙ refused p)
+        (u .stops))
 
     -- without a sign
-    plainly : ((x : List ℕ) → readNumber (c ∷ x) ≡ above (unsignedFrom 2147483647 0 (c ∷ x))) → StopsAt (unsignedFrom 2147483647 0) 0 (c ∷ s) p → Stops NumberReads (NumberRefuses p) (c ∷ s) p
+    plainly : ((x : List ℕ) → readNumber (c ∷ x) ≡ above (unsignedFrom 2147483647 0 (c ∷ x)))
+        → StopsAt (unsignedFrom 2147483647 0) 0 (c ∷ s) p → Stops NumberReads (NumberRefuses p) (c ∷ s) p
     plainly none u =
         let z : u .passed ≡ p = omega (arith, u .place) in
         let f = u .stops in

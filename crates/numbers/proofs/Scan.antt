@@ -23,7 +23,8 @@ use Rattle.numbers.specs.declared.UnsignedRead.the-variants.{Value, Refu
 
 -- whether the byte may stand there: a digit that may, a byte that is no digit, a digit that carries the value past `most`
 module _ (b most n i c : ℕ) (s : List ℕ) where
-  pub scan-goes : (ltb (valueOf c) b && leb (n * b + valueOf c) most) ≡ true → scan b most n i (c ∷ s) ≡ scan b most (n * b + valueOf c) (suc i) s
+  pub scan-goes : (ltb (valueOf c) b && leb (n * b + valueOf c) most) ≡ true
+      → scan b most n i (c ∷ s) ≡ scan b most (n * b + valueOf c) (suc i) s
   unfolding scan
   scan-goes h = rw h
 
@@ -62,10 +63,12 @@ module _ (b most from : ℕ) (w : List ℕ) where
       here : scan b most n i (getD w i 0 ∷ drop (suc i) w) ≡ digitsFrom b most from (drop from w)
       here = rw (drop-cons w i 0 h) at so
 
-      pub digits-stop : (ltb (valueOf (getD w i 0)) b && leb (n * b + valueOf (getD w i 0)) most) ≡ false → Refused i ≡ digitsFrom b most from (drop from w)
+      pub digits-stop : (ltb (valueOf (getD w i 0)) b && leb (n * b + valueOf (getD w i 0)) most) ≡ false
+          → Refused i ≡ digitsFrom b most from (drop from w)
       digits-stop k = sym (scan-ends b most n i (getD w i 0) (drop (suc i) w) k) ∙ here
 
-      pub digits-small : (ltb (valueOf (getD w i 0)) b && leb (n * b + valueOf (getD w i 0)) most) ≡ true → n * b + valueOf (getD w i 0) ≤ most
+      pub digits-small : (ltb (valueOf (getD w i 0)) b && leb (n * b + valueOf (getD w i 0)) most) ≡ true
+          → n * b + valueOf (getD w i 0) ≤ most
       digits-small k = scan-small b most n i (getD w i 0) [] k
 
       pub digits-more : (ltb (valueOf (getD w i 0)) b && leb (n * b + valueOf (getD w i 0)) most) ≡ true

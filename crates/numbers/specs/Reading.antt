@@ -7,6 +7,7 @@ use lib.Dec.{eqb, ltb, leb}
 use lib.IntN.{pos, negℤ}
 use lib.ListN.{take, drop}
 use Rattle.numbers.specs.Checksum.{checksum}
+use Rattle.numbers.specs.Spelling.{highestAddress}
 use Rattle.laws.specs.Text.{plus-sign, minus-sign, text, same}
 use Rattle.numbers.specs.declared.UnsignedRead.{UnsignedRead}
 use Rattle.numbers.specs.declared.UnsignedRead.the-variants as Unsigned
@@ -15,12 +16,16 @@ use Rattle.numbers.specs.declared.NumberRead.the-variants as Number
 use Rattle.numbers.specs.declared.PairRead.{PairRead}
 use Rattle.numbers.specs.declared.PairRead.the-variants as Pair
 
--- what a digit stands for, in either case; 99 for any other byte
+-- what stands for no digit: more than any digit
+abbrev pub noDigit : ℕ
+noDigit = 99
+
+-- what a digit stands for, in either case; any other byte is none
 unfoldable pub valueOf : ℕ → ℕ
 valueOf c =
     cond (leb 48 c && leb c 57) (c - 48)
     (cond (leb 65 c && leb c 70) (c - 55)
-    (cond (leb 97 c && leb c 102) (c - 87) 99))
+    (cond (leb 97 c && leb c 102) (c - 87) noDigit))
 
 -- digits of base b behind the number n, the first of them at place i; none may carry the value past `most`
 unfoldable pub scan : ℕ → ℕ → ℕ → ℕ → List ℕ → UnsignedRead
@@ -49,7 +54,7 @@ AtMost most (Unsigned.Refused p) = 0 ≤ p
 
 -- an address: no sign, 0 to 99
 unfoldable pub readAddress : List ℕ → UnsignedRead
-readAddress w = unsignedFrom 99 0 w
+readAddress w = unsignedFrom highestAddress 0 w
 
 abbrev pub above : UnsignedRead → NumberRead
 above (Unsigned.Value n) = Number.Value (record { 0 = pos n })

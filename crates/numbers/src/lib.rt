@@ -4,6 +4,9 @@ ghost use mathlib.Core.Path.{_≡_};
 ghost use Rattle.numbers.specs.Checksum.{checksum as checksumOf};
 use units::Number;
 
+// "an unsigned number 0 to 99"
+pub const HIGHEST_ADDRESS: u32 = 99;
+
 // An unsigned number; or the place of the refusal.
 pub enum UnsignedRead {
     Value(u64),
@@ -34,4 +37,5 @@ pub fn checksum(s: &[u8]) -> u8
     ((256 - sum) % 256) as u8
 }
 
+pub mod digits;
 pub mod reading;

@@ -2,18 +2,19 @@
 // The rules are in specs/Reading.antt; proofs/Numbers.antt shows that just what is spelled is read.
 ghost use mathlib.Core.Path.{_≡_};
 ghost use Rattle.numbers.specs.Reading.{AtMost, readAddress as addressIn, above, below, readNumber as numberIn, readPair as pairIn, saysSum};
+use crate::HIGHEST_ADDRESS;
 use crate::NumberRead;
 use crate::PairRead;
 use crate::UnsignedRead;
-use crate::reading::numeral::digit_value;
-use crate::reading::numeral::unsigned;
+use crate::digits::digit_value;
+use crate::digits::unsigned;
 use units::Number;
 
 // A word as an address.
 pub fn read_address(w: &[u8]) -> UnsignedRead
     ensures { λ r. ⌜ r ≡ addressIn (now (w .entry)) ⌝ }
 {
-    unsigned(w, 0, 99)
+    unsigned(w, 0, HIGHEST_ADDRESS)
 }
 
 // The number that lies so far above zero.
@@ -81,5 +82,3 @@ pub fn says_sum(s: &[u8], p: PairRead) -> bool
         PairRead::Refused => false,
     }
 }
-
-pub mod numeral;

@@ -87,7 +87,8 @@ move-agrees u t (inr (e1, inl p)) = rw p (number-fits With.MoveRel t ∙ fit (ju
 move-agrees u t (inr (e1, inr (e2, inl p))) = rw p (number-fits With.MoveVel t ∙ fit (justSo (number ∷ []) t))
 move-agrees u t (inr (e1, inr (e2, inr (e3, inl p)))) = rw p (ended-fits (MoveTo Min) t ∙ fit (justSo [] t))
 move-agrees u t (inr (e1, inr (e2, inr (e3, inr (e4, inl p))))) = rw p (ended-fits (MoveTo Max) t ∙ fit (justSo [] t))
-move-agrees u t (inr (e1, inr (e2, inr (e3, inr (e4, inr (e5, inl p)))))) = rw p (number-fits With.MoveStored t ∙ fit (justSo (number ∷ []) t))
+move-agrees u t (inr (e1, inr (e2, inr (e3, inr (e4, inr (e5, inl p)))))) =
+    rw p (number-fits With.MoveStored t ∙ fit (justSo (number ∷ []) t))
 move-agrees u t (inr (e1, inr (e2, inr (e3, inr (e4, inr (e5, inr (e6, r))))))) = simp (e1, e2, e3, e4, e5, e6)
 
 -- behind `get` and `set`
@@ -116,7 +117,8 @@ storepos-agrees (w ∷ []) = go (readNumber w) refl
     go (Number.Refused p) q = rw q refl
 storepos-agrees (w ∷ v ∷ []) = go (same v (text "current")) refl (readNumber w) refl (readNumber v) refl
   where
-    go : (b : Bool) → same v (text "current") ≡ b → (x : NumberRead) → readNumber w ≡ x → (y : NumberRead) → readNumber v ≡ y → Agrees (text "tools" ∷ text "storepos" ∷ w ∷ v ∷ [])
+    go : (b : Bool) → same v (text "current") ≡ b → (x : NumberRead) → readNumber w ≡ x → (y : NumberRead) → readNumber v ≡ y
+        → Agrees (text "tools" ∷ text "storepos" ∷ w ∷ v ∷ [])
     go true e (Number.Value n) q (Number.Value m) r = rw (e, q, r) refl
     go true e (Number.Value n) q (Number.Refused o) r = rw (e, q, r) refl
     go true e (Number.Refused p) q y r = rw (e, q) refl
@@ -148,7 +150,8 @@ warnings-agrees u t false e = rw e refl
 
 -- the first word, with words behind it and without
 first-agrees : (w : List ℕ) (t : List (List ℕ)) → Which w firstWords → Agrees (w ∷ t)
-unfolding readCommand readMove readGet readSet readSetting nameOf readTools readWarnings meaningOf headWord tailWords badCommand badData beginSo justSo firstOf fold same text
+unfolding readCommand readMove readGet readSet readSetting nameOf readTools readWarnings meaningOf headWord tailWords badCommand badData
+    beginSo justSo firstOf fold same text
 first-agrees w t (inl p) = rw p (ended-fits Home t ∙ fit (justSo [] t))
 first-agrees w t (inr (e1, inl p)) = rw p (ended-fits Stop t ∙ fit (justSo [] t))
 first-agrees w t (inr (e1, inr (e2, inl p))) = rw p (ended-fits Estop t ∙ fit (justSo [] t))
@@ -161,7 +164,8 @@ first-agrees w (u ∷ t) (inr (e1, inr (e2, inr (e3, inr (e4, inr (e5, inl p))))
 first-agrees w [] (inr (e1, inr (e2, inr (e3, inr (e4, inr (e5, inr (e6, inl p))))))) = rw p refl
 first-agrees w (u ∷ t) (inr (e1, inr (e2, inr (e3, inr (e4, inr (e5, inr (e6, inl p))))))) = rw p (tools-agrees u t (which u toolWords))
 first-agrees w [] (inr (e1, inr (e2, inr (e3, inr (e4, inr (e5, inr (e6, inr (e7, inl p)))))))) = rw p refl
-first-agrees w (u ∷ t) (inr (e1, inr (e2, inr (e3, inr (e4, inr (e5, inr (e6, inr (e7, inl p)))))))) = rw p (warnings-agrees u t (same u (text "clear")) refl)
+first-agrees w (u ∷ t) (inr (e1, inr (e2, inr (e3, inr (e4, inr (e5, inr (e6, inr (e7, inl p)))))))) = rw p
+    (warnings-agrees u t (same u (text "clear")) refl)
 first-agrees w t (inr (e1, inr (e2, inr (e3, inr (e4, inr (e5, inr (e6, inr (e7, inr (e8, r))))))))) = simp (e1, e2, e3, e4, e5, e6, e7, e8)
 
 -- Words are refused with the first of 10 and 11 that applies, and with no other number.

@@ -53,7 +53,8 @@ one-read : (k : Numbered) {w : List ℕ} {n : ℤ} → NumberWord w n → oneNum
 unfolding oneNumber
 one-read k h = ap (made k) (number-read h)
 
-set-read : (s : Setting) {w : List ℕ} {n : ℤ} → readOnly s ≡ false → NumberWord w n → setOf (Is s) (w ∷ []) ≡ Words.Command (numbered (With.SetTo s) (number n))
+set-read : (s : Setting) {w : List ℕ} {n : ℤ} → readOnly s ≡ false → NumberWord w n
+    → setOf (Is s) (w ∷ []) ≡ Words.Command (numbered (With.SetTo s) (number n))
 set-read s r h = rw r (one-read (With.SetTo s) h)
 
 -- the word `current` is no number
@@ -145,20 +146,23 @@ made-is k w {c} e = go (readNumber w) refl e
     go (Number.Refused p) q e = no-command e
 
 number-row : (k : Numbered) (front t : List (List ℕ)) {c : Command}
-    → ((w : List ℕ) (n : ℤ) → NumberWord w n → Row (front ++ w ∷ []) (numbered k (number n)) []) → oneNumber k t ≡ Words.Command c → Spelled (front ++ t) c
+    → ((w : List ℕ) (n : ℤ) → NumberWord w n → Row (front ++ w ∷ []) (numbered k (number n)) []) → oneNumber k t ≡ Words.Command c
+    → Spelled (front ++ t) c
 unfolding oneNumber
 number-row k front [] r e = no-command e
 number-row k front (w ∷ []) r e = let m = made-is k w e in put refl (m .is) (r w (m .value) (m .word))
 number-row k front (w ∷ v ∷ t) r e = no-command e
 
 -- each word that may follow, with the words t behind it
-after-move : (u : List ℕ) (t : List (List ℕ)) (c : Command) → Hits (Refused 10) u (Words.Command c) (moves t) → Spelled (text "move" ∷ u ∷ t) c
+after-move : (u : List ℕ) (t : List (List ℕ)) (c : Command) → Hits (Refused 10) u (Words.Command c) (moves t)
+    → Spelled (text "move" ∷ u ∷ t) c
 after-move u t c (inl (p, q)) = rw p (number-row With.MoveAbs (text "move" ∷ text "abs" ∷ []) t (λ w n h. Row.move-abs h) q)
 after-move u t c (inr (inl (p, q))) = rw p (number-row With.MoveRel (text "move" ∷ text "rel" ∷ []) t (λ w n h. Row.move-rel h) q)
 after-move u t c (inr (inr (inl (p, q)))) = rw p (number-row With.MoveVel (text "move" ∷ text "vel" ∷ []) t (λ w n h. Row.move-vel h) q)
 after-move u t c (inr (inr (inr (inl (p, q))))) = rw p (ended-row (text "move" ∷ text "min" ∷ []) t Row.move-min q)
 after-move u t c (inr (inr (inr (inr (inl (p, q)))))) = rw p (ended-row (text "move" ∷ text "max" ∷ []) t Row.move-max q)
-after-move u t c (inr (inr (inr (inr (inr (inl (p, q))))))) = rw p (number-row With.MoveStored (text "move" ∷ text "stored" ∷ []) t (λ w n h. Row.move-stored h) q)
+after-move u t c (inr (inr (inr (inr (inr (inl (p, q))))))) =
+    rw p (number-row With.MoveStored (text "move" ∷ text "stored" ∷ []) t (λ w n h. Row.move-stored h) q)
 after-move u t c (inr (inr (inr (inr (inr (inr e)))))) = no-command e
 
 -- a word that is read as a setting is its name
@@ -171,15 +175,18 @@ setting-is : (w : List ℕ) (s : Setting) → readSetting w ≡ Is s → w ≡ n
 unfolding readSetting
 setting-is w s e = named-is settings w s (hits Unknown w (Is s) names e)
 
-after-get : (u : List ℕ) (t : List (List ℕ)) {c : Command} (x : SettingRead) → readSetting u ≡ x → getOf x t ≡ Words.Command c → Spelled (text "get" ∷ u ∷ t) c
+after-get : (u : List ℕ) (t : List (List ℕ)) {c : Command} (x : SettingRead) → readSetting u ≡ x → getOf x t ≡ Words.Command c
+    → Spelled (text "get" ∷ u ∷ t) c
 after-get u t Unknown q e = no-command e
 after-get u t (Is s) q e = rw (setting-is u s q) (ended-row (text "get" ∷ nameOf s ∷ []) t Row.get e)
 
-after-set : (u : List ℕ) (t : List (List ℕ)) {c : Command} (x : SettingRead) → readSetting u ≡ x → setOf x t ≡ Words.Command c → Spelled (text "set" ∷ u ∷ t) c
+after-set : (u : List ℕ) (t : List (List ℕ)) {c : Command} (x : SettingRead) → readSetting u ≡ x → setOf x t ≡ Words.Command c
+    → Spelled (text "set" ∷ u ∷ t) c
 after-set u t Unknown q e = no-command e
 after-set u t {c} (Is s) q e = rw (setting-is u s q) (go (readOnly s) refl e)
   where
-    go : (b : Bool) → readOnly s ≡ b → cond b (Refused 10) (oneNumber (With.SetTo s) t) ≡ Words.Command c → Spelled (text "set" ∷ nameOf s ∷ t) c
+    go : (b : Bool) → readOnly s ≡ b → cond b (Refused 10) (oneNumber (With.SetTo s) t) ≡ Words.Command c
+        → Spelled (text "set" ∷ nameOf s ∷ t) c
     go true r e = no-command e
     go false r e = number-row (With.SetTo s) (text "set" ∷ nameOf s ∷ []) t (λ w n h. Row.set r h) e
 
@@ -193,13 +200,16 @@ after-storepos (w ∷ v ∷ []) {c} e = go (same v (text "current")) refl e
     at (Number.Refused p) q e = no-command e
     at (Number.Value n) q e = let m = made-is (With.StoreAt n) v e in put refl (m .is) (Row.storepos-at (number-of w (n .0) q) (m .word))
 
-    go : (b : Bool) → same v (text "current") ≡ b → cond b (made With.StoreCurrent (readNumber w)) (storeAt (readNumber w) v) ≡ Words.Command c
+    go : (b : Bool) → same v (text "current") ≡ b
+        → cond b (made With.StoreCurrent (readNumber w)) (storeAt (readNumber w) v) ≡ Words.Command c
         → Spelled (text "tools" ∷ text "storepos" ∷ w ∷ v ∷ []) c
-    go true q e = let m = made-is With.StoreCurrent w e in rw (same-true v (text "current") q) (put refl (m .is) (Row.storepos-current (m .word)))
+    go true q e = let m = made-is With.StoreCurrent w e in
+        rw (same-true v (text "current") q) (put refl (m .is) (Row.storepos-current (m .word)))
     go false q e = at (readNumber w) refl e
 after-storepos (w ∷ v ∷ u ∷ t) e = no-command e
 
-after-parking : (u : List ℕ) (t : List (List ℕ)) (c : Command) → Hits (Refused 11) u (Words.Command c) (parkings t) → Spelled (text "tools" ∷ text "parking" ∷ u ∷ t) c
+after-parking : (u : List ℕ) (t : List (List ℕ)) (c : Command) → Hits (Refused 11) u (Words.Command c) (parkings t)
+    → Spelled (text "tools" ∷ text "parking" ∷ u ∷ t) c
 after-parking u t c (inl (p, q)) = rw p (ended-row (text "tools" ∷ text "parking" ∷ text "state" ∷ []) t Row.parking-state q)
 after-parking u t c (inr (inl (p, q))) = rw p (ended-row (text "tools" ∷ text "parking" ∷ text "park" ∷ []) t Row.park q)
 after-parking u t c (inr (inr (inl (p, q)))) = rw p (ended-row (text "tools" ∷ text "parking" ∷ text "unpark" ∷ []) t Row.unpark q)
@@ -210,7 +220,8 @@ unfolding readParking meaningOf headWord tailWords same text
 behind-parking [] e = no-command e
 behind-parking (u ∷ t) {c} e = after-parking u t c (hits (Refused 11) u (Words.Command c) (parkings t) e)
 
-after-tools : (u : List ℕ) (t : List (List ℕ)) (c : Command) → Hits (Refused 10) u (Words.Command c) (tools t) → Spelled (text "tools" ∷ u ∷ t) c
+after-tools : (u : List ℕ) (t : List (List ℕ)) (c : Command) → Hits (Refused 10) u (Words.Command c) (tools t)
+    → Spelled (text "tools" ∷ u ∷ t) c
 after-tools u t c (inl (p, q)) = rw p (after-storepos t q)
 after-tools u t c (inr (inl (p, q))) = rw p (behind-parking t q)
 after-tools u t c (inr (inr (inl (p, q)))) = rw p (put refl (cc) Row.echo)
@@ -221,7 +232,8 @@ unfolding readWarnings
 after-warnings [] e = put refl (cc) Row.warnings
 after-warnings (u ∷ t) {c} e = go (same u (text "clear")) refl e
   where
-    go : (b : Bool) → same u (text "clear") ≡ b → cond b (ended WarningsClear t) (Refused 11) ≡ Words.Command c → Spelled (text "warnings" ∷ u ∷ t) c
+    go : (b : Bool) → same u (text "clear") ≡ b → cond b (ended WarningsClear t) (Refused 11) ≡ Words.Command c
+        → Spelled (text "warnings" ∷ u ∷ t) c
     go true q e = rw (same-true u (text "clear") q) (ended-row (text "warnings" ∷ text "clear" ∷ []) t Row.warnings-clear e)
     go false q e = no-command e
 
@@ -266,7 +278,8 @@ pub row-of : (ws : List (List ℕ)) (c : Command) → readCommand ws ≡ Words.C
 row-of ws c e = let s = spelled ws c e in rw (row-echo (s .1)) (s .1)
 
 -- Words are read as a command exactly where they are spelled so; and they spell one command at most.
-pub row-iff : (ws : List (List ℕ)) (c : Command) (es : List (List ℕ)) → Row ws c es ↔ ((readCommand ws ≡ Words.Command c) × (echoOf c ws ≡ es))
+pub row-iff : (ws : List (List ℕ)) (c : Command) (es : List (List ℕ)) → Row ws c es
+    ↔ ((readCommand ws ≡ Words.Command c) × (echoOf c ws ≡ es))
 row-iff ws c es = ((λ r. (row-read r, row-echo r)), (λ h. rw (← h .1) (row-of ws c (h .0))))
 
 pub row-one : {ws es fs : List (List ℕ)} {c d : Command} → Row ws c es → Row ws d fs → c ≡ d

@@ -43,7 +43,8 @@ module _ (l v : List ℕ) (first : v ≡ headWord (cut l)) where
   warnings-alone h = rw (word-none l v first h)
 
   module _ (h : length v ≡ 0 → ⊥) where
-    pub warnings-clear : {r : WordsRead} (t : List (List ℕ)) → t ≡ tailWords (cut l) → same v (text "clear") ≡ true → r ≡ ended WarningsClear t → r ≡ readWarnings (cut l)
+    pub warnings-clear : {r : WordsRead} (t : List (List ℕ)) → t ≡ tailWords (cut l) → same v (text "clear") ≡ true
+        → r ≡ ended WarningsClear t → r ≡ readWarnings (cut l)
     unfolding readWarnings
     warnings-clear t q e z = rw (word-some l v t first q h, e) z
 
@@ -80,7 +81,8 @@ some-tail [] v vs q = let z : _≡_ {A = ℕ} 0 1 = cc in absurd (omega arith)
 some-tail (w ∷ ws) v vs q = rw q
 
 -- the words are ws, of which w is the first; those behind it are cut from l, and v is the first of these
-module _ (ws : List (List ℕ)) (w l v : List ℕ) (first : w ≡ headWord ws) (behind : cut l ≡ tailWords ws) (second : v ≡ headWord (cut l)) where
+module _ (ws : List (List ℕ)) (w l v : List ℕ) (first : w ≡ headWord ws) (behind : cut l ≡ tailWords ws)
+    (second : v ≡ headWord (cut l)) where
   two : (length v ≡ 0 → ⊥) → ws ≡ w ∷ v ∷ tailWords (cut l)
   two h = rw first (some-tail ws v (tailWords (cut l)) (sym behind ∙ word-some l v _ second refl h))
 

@@ -37,7 +37,8 @@ row-written (MoveVel v) es h = filled (h .only-echo refl) (Row.move-vel (decimal
 row-written (Get s) es h = filled (h .only-echo refl) Row.get
 row-written (Set s n) es h = filled (h .only-echo refl) (Row.set (h .parts .0) (decimal-spelled (n .0) (h .parts .1)))
 row-written (Storepos n) es h = filled (h .only-echo refl) (Row.storepos (decimal-spelled (n .0) (h .parts)))
-row-written (StoreposAt n p) es h = filled (h .only-echo refl) (Row.storepos-at (decimal-spelled (n .0) (h .parts .0)) (decimal-spelled (p .0) (h .parts .1)))
+row-written (StoreposAt n p) es h = filled (h .only-echo refl)
+    (Row.storepos-at (decimal-spelled (n .0) (h .parts .0)) (decimal-spelled (p .0) (h .parts .1)))
 row-written (StoreposCurrent n) es h = filled (h .only-echo refl) (Row.storepos-current (decimal-spelled (n .0) (h .parts)))
 row-written Warnings es h = filled (h .only-echo refl) Row.warnings
 row-written WarningsClear es h = filled (h .only-echo refl) Row.warnings-clear
@@ -69,7 +70,8 @@ word-of : (w : List ℕ) → isWord w ≡ true → Word w
 unfolding isWord
 word-of [] e = let z : _≡_ {A = ℕ} 0 1 = cc in absurd (omega arith)
 word-of (c ∷ []) e = Word.one (byte-of c e)
-word-of (c ∷ d ∷ w) e = Word.more (byte-of c (and-left (isByte c) (isWord (d ∷ w)) e)) (word-of (d ∷ w) (and-right (isByte c) (isWord (d ∷ w)) e))
+word-of (c ∷ d ∷ w) e = Word.more (byte-of c (and-left (isByte c) (isWord (d ∷ w)) e))
+    (word-of (d ∷ w) (and-right (isByte c) (isWord (d ∷ w)) e))
 
 digit-byte : {b c d : ℕ} → b ≤ 16 → Digit b c d → WordByte c
 digit-byte h (figure l t e) = record { low = omega arith; high = omega arith; no-colon = λ z. omega arith }

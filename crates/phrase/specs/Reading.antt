@@ -5,6 +5,7 @@ use mathlib.Core.List.{List, [], _∷_, map}
 use Prim.Native.Nat.{ℕ}
 use lib.ListN.{drop}
 use Rattle.laws.specs.Text.{text, same}
+use Rattle.laws.specs.Refusals.{BADCOMMAND, BADDATA}
 use Rattle.units.specs.Units.{position, speed}
 use Rattle.numbers.specs.Reading.{readNumber}
 use Rattle.numbers.specs.declared.NumberRead.{NumberRead}
@@ -24,7 +25,7 @@ use Rattle.phrase.specs.declared.WordsRead.the-variants as Words
 -- a command with no word behind it
 unfoldable pub ended : Command → List (List ℕ) → WordsRead
 ended c [] = Words.Command c
-ended c (w ∷ ws) = Refused 11
+ended c (w ∷ ws) = Refused BADDATA
 
 -- the command of a row that waits for its number
 abbrev pub numbered : Numbered → Number → Command
@@ -39,13 +40,13 @@ numbered With.StoreCurrent n = StoreposCurrent n
 
 abbrev pub made : Numbered → NumberRead → WordsRead
 made k (Number.Value n) = Words.Command (numbered k n)
-made k (Number.Refused p) = Refused 11
+made k (Number.Refused p) = Refused BADDATA
 
 -- a row whose last word is its number: one word is left, and it is a number
 unfoldable pub oneNumber : Numbered → List (List ℕ) → WordsRead
-oneNumber k [] = Refused 11
+oneNumber k [] = Refused BADDATA
 oneNumber k (w ∷ []) = made k (readNumber w)
-oneNumber k (w ∷ v ∷ ws) = Refused 11
+oneNumber k (w ∷ v ∷ ws) = Refused BADDATA
 
 -- behind `move`
 abbrev pub moves : List (List ℕ) → List (Entry WordsRead)
@@ -59,13 +60,15 @@ moves ws =
     ∷ []
 
 unfoldable pub readMove : List (List ℕ) → WordsRead
-readMove ws = meaningOf (Refused 10) (headWord ws) (moves (tailWords ws))
+readMove ws = meaningOf (Refused BADCOMMAND) (headWord ws) (moves (tailWords ws))
 
 -- the settings by their names
 abbrev pub settings : List Setting
 settings =
-    OfAxis Pos ∷ OfAxis LimitMin ∷ OfAxis LimitMax ∷ OfAxis MaxSpeed ∷ OfAxis Accel ∷ OfAxis DriverCurrentMax ∷ OfAxis DriverCurrentRun ∷ OfAxis DriverCurrentHold
-    ∷ OfAxis DriverDir ∷ OfAxis EncoderIndexCount ∷ OfDevice CommAddress ∷ OfDevice CommAlert ∷ OfDevice CommChecksum ∷ OfDevice SystemAccess ∷ OfDevice DeviceId
+    OfAxis Pos ∷ OfAxis LimitMin ∷ OfAxis LimitMax ∷ OfAxis MaxSpeed ∷ OfAxis Accel ∷ OfAxis DriverCurrentMax ∷ OfAxis DriverCurrentRun
+    ∷ OfAxis DriverCurrentHold
+    ∷ OfAxis DriverDir ∷ OfAxis EncoderIndexCount ∷ OfDevice CommAddress ∷ OfDevice CommAlert ∷ OfDevice CommChecksum
+    ∷ OfDevice SystemAccess ∷ OfDevice DeviceId
     ∷ OfDevice SystemAxisCount ∷ []
 
 abbrev pub named : Setting → Entry SettingRead
@@ -79,7 +82,7 @@ readSetting w = meaningOf Unknown w names
 
 -- behind `get`
 abbrev pub getOf : SettingRead → List (List ℕ) → WordsRead
-getOf Unknown ws = Refused 10
+getOf Unknown ws = Refused BADCOMMAND
 getOf (Is s) ws = ended (Get s) ws
 
 unfoldable pub readGet : List (List ℕ) → WordsRead
@@ -87,41 +90,41 @@ readGet ws = getOf (readSetting (headWord ws)) (tailWords ws)
 
 -- behind `set`: "set of a read-only setting" is 10
 abbrev pub setOf : SettingRead → List (List ℕ) → WordsRead
-setOf Unknown ws = Refused 10
-setOf (Is s) ws = cond (readOnly s) (Refused 10) (oneNumber (With.SetTo s) ws)
+setOf Unknown ws = Refused BADCOMMAND
+setOf (Is s) ws = cond (readOnly s) (Refused BADCOMMAND) (oneNumber (With.SetTo s) ws)
 
 unfoldable pub readSet : List (List ℕ) → WordsRead
 readSet ws = setOf (readSetting (headWord ws)) (tailWords ws)
 
 -- behind `tools storepos`: N; N P; N current
 abbrev pub storeAt : NumberRead → List ℕ → WordsRead
-storeAt (Number.Refused p) v = Refused 11
+storeAt (Number.Refused p) v = Refused BADDATA
 storeAt (Number.Value n) v = made (With.StoreAt n) (readNumber v)
 
 unfoldable pub readStorepos : List (List ℕ) → WordsRead
-readStorepos [] = Refused 11
+readStorepos [] = Refused BADDATA
 readStorepos (w ∷ []) = made With.Store (readNumber w)
 readStorepos (w ∷ v ∷ []) = cond (same v (text "current")) (made With.StoreCurrent (readNumber w)) (storeAt (readNumber w) v)
-readStorepos (w ∷ v ∷ u ∷ ws) = Refused 11
+readStorepos (w ∷ v ∷ u ∷ ws) = Refused BADDATA
 
 -- behind `tools parking`
 abbrev pub parkings : List (List ℕ) → List (Entry WordsRead)
 parkings ws = text "state" means ended ParkingState ws ∷ text "park" means ended Park ws ∷ text "unpark" means ended Unpark ws ∷ []
 
 unfoldable pub readParking : List (List ℕ) → WordsRead
-readParking ws = meaningOf (Refused 11) (headWord ws) (parkings (tailWords ws))
+readParking ws = meaningOf (Refused BADDATA) (headWord ws) (parkings (tailWords ws))
 
 -- behind `tools`
 abbrev pub tools : List (List ℕ) → List (Entry WordsRead)
 tools ws = text "storepos" means readStorepos ws ∷ text "parking" means readParking ws ∷ text "echo" means Words.Command Echo ∷ []
 
 unfoldable pub readTools : List (List ℕ) → WordsRead
-readTools ws = meaningOf (Refused 10) (headWord ws) (tools (tailWords ws))
+readTools ws = meaningOf (Refused BADCOMMAND) (headWord ws) (tools (tailWords ws))
 
 -- behind `warnings`
 unfoldable pub readWarnings : List (List ℕ) → WordsRead
 readWarnings [] = Words.Command Warnings
-readWarnings (w ∷ ws) = cond (same w (text "clear")) (ended WarningsClear ws) (Refused 11)
+readWarnings (w ∷ ws) = cond (same w (text "clear")) (ended WarningsClear ws) (Refused BADDATA)
 
 -- the first word
 abbrev pub firsts : List (List ℕ) → List (Entry WordsRead)
@@ -138,7 +141,7 @@ firsts ws =
 
 unfoldable pub readCommand : List (List ℕ) → WordsRead
 readCommand [] = Words.Command Nothing
-readCommand (w ∷ ws) = meaningOf (Refused 10) w (firsts ws)
+readCommand (w ∷ ws) = meaningOf (Refused BADCOMMAND) w (firsts ws)
 
 -- "An echo command carries its words": the command's third and those behind it. No other command carries any.
 abbrev pub isEcho : Command → Bool

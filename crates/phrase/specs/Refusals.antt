@@ -7,7 +7,7 @@ use Prim.Native.String.{String}
 use lib.ListN.{length, drop}
 use Rattle.laws.specs.Lists.{any}
 use Rattle.laws.specs.Text.{text, same}
-use Rattle.laws.specs.Refusals.{_when_, firstOf}
+use Rattle.laws.specs.Refusals.{_when_, firstOf, BADCOMMAND, BADDATA}
 use Rattle.numbers.specs.Reading.{readNumber}
 use Rattle.numbers.specs.declared.NumberRead.{NumberRead}
 use Rattle.numbers.specs.declared.NumberRead.the-variants as Number
@@ -112,4 +112,4 @@ wordsNumber (Words.Refused n) = n
 
 -- "Checks run in the table's order and the first that applies wins."
 unfoldable pub wordsRefusal : List (List ℕ) → ℕ
-wordsRefusal ws = firstOf (10 when badCommand ws ∷ 11 when badData ws ∷ [])
+wordsRefusal ws = firstOf (BADCOMMAND when badCommand ws ∷ BADDATA when badData ws ∷ [])

@@ -24,7 +24,8 @@ pub data Row : List (List ℕ) → Command → List (List ℕ) → Type 0 where
   move-stored : {w : List ℕ} {n : ℤ} → NumberWord w n → Row (text "move" ∷ text "stored" ∷ w ∷ []) (MoveTo (Stored (number n))) []
   get : {s : Setting} → Row (text "get" ∷ nameOf s ∷ []) (Get s) []
   -- "`set` is spelled only for settings that can be written."
-  set : {s : Setting} {w : List ℕ} {n : ℤ} → readOnly s ≡ false → NumberWord w n → Row (text "set" ∷ nameOf s ∷ w ∷ []) (Set s (number n)) []
+  set : {s : Setting} {w : List ℕ} {n : ℤ} → readOnly s ≡ false → NumberWord w n
+      → Row (text "set" ∷ nameOf s ∷ w ∷ []) (Set s (number n)) []
   storepos : {w : List ℕ} {n : ℤ} → NumberWord w n → Row (text "tools" ∷ text "storepos" ∷ w ∷ []) (Storepos (number n)) []
   storepos-at : {w v : List ℕ} {n p : ℤ} → NumberWord w n → NumberWord v p
       → Row (text "tools" ∷ text "storepos" ∷ w ∷ v ∷ []) (StoreposAt (number n) (position p)) []

@@ -6,6 +6,7 @@ ghost use Rattle.phrase.specs.Reading.{numbered as numberedBy, made};
 use command::Command;
 use command::Setting;
 use command::Target;
+use laws::BADDATA;
 use numbers::NumberRead;
 use units::Number;
 
@@ -56,7 +57,7 @@ impl Numbered {
     {
         match n {
             NumberRead::Value(v) => WordsRead::Command(self.with(v)),
-            NumberRead::Refused(_) => WordsRead::Refused(11),
+            NumberRead::Refused(_) => WordsRead::Refused(BADDATA),
         }
     }
 }

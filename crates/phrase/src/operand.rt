@@ -13,6 +13,7 @@ use command::AxisSetting;
 use command::Command;
 use command::DeviceSetting;
 use command::Setting;
+use laws::BADDATA;
 
 // The command c, where no word is left.
 pub fn ended_at(s: &[u8], at: usize, c: Command) -> WordsRead
@@ -22,7 +23,7 @@ pub fn ended_at(s: &[u8], at: usize, c: Command) -> WordsRead
     if w.len() == 0 {
         WordsRead::Command(c)
     } else {
-        WordsRead::Refused(11)
+        WordsRead::Refused(BADDATA)
     }
 }
 
@@ -36,7 +37,7 @@ pub fn one_number(s: &[u8], at: usize, k: Numbered) -> WordsRead
     if v.len() == 0 {
         return k.made(numbers::reading::read_number(w));
     }
-    WordsRead::Refused(11)
+    WordsRead::Refused(BADDATA)
 }
 
 // The setting at place k of the names.

@@ -10,6 +10,8 @@ ghost use Rattle.phrase.specs.Refusals.{wordsNumber, wordsRefusal};
 use crate::WordsRead;
 use crate::operand::ended_at;
 use command::Command;
+use laws::BADCOMMAND;
+use laws::BADDATA;
 
 // The words behind `warnings`.
 fn read_warnings(s: &[u8], at: usize) -> WordsRead
@@ -22,7 +24,7 @@ fn read_warnings(s: &[u8], at: usize) -> WordsRead
     if words::same_bytes(w, b"clear") {
         return ended_at(s, words::past_word(s, at), Command::WarningsClear);
     }
-    WordsRead::Refused(11)
+    WordsRead::Refused(BADDATA)
 }
 
 // Behind the first word at place k of the table.
@@ -38,7 +40,7 @@ fn first_at(k: usize, s: &[u8], at: usize) -> WordsRead
         5 => crate::verbs::read_set(s, at),
         6 => crate::toolwords::read_tools(s, at),
         7 => read_warnings(s, at),
-        _ => WordsRead::Refused(10),
+        _ => WordsRead::Refused(BADCOMMAND),
     }
 }
 

@@ -10,6 +10,8 @@ use crate::Numbered;
 use crate::WordsRead;
 use crate::operand::ended_at;
 use command::Command;
+use laws::BADCOMMAND;
+use laws::BADDATA;
 use numbers::NumberRead;
 
 // `tools storepos` with its number n and a position.
@@ -17,7 +19,7 @@ fn store_at(n: NumberRead, v: &[u8]) -> WordsRead
     ensures { λ r. ⌜ r ≡ storeAt n (now (v .entry)) ⌝ }
 {
     match n {
-        NumberRead::Refused(_) => WordsRead::Refused(11),
+        NumberRead::Refused(_) => WordsRead::Refused(BADDATA),
         NumberRead::Value(m) => Numbered::StoreAt(m).made(numbers::reading::read_number(v)),
     }
 }
@@ -35,7 +37,7 @@ fn read_storepos(s: &[u8], at: usize) -> WordsRead
     let third = words::past_word(s, second);
     let u = words::first_word(s, third);
     if u.len() != 0 {
-        return WordsRead::Refused(11);
+        return WordsRead::Refused(BADDATA);
     }
     if words::same_bytes(v, b"current") {
         return Numbered::StoreCurrent.made(n);
@@ -51,7 +53,7 @@ fn parking_at(k: usize, s: &[u8], at: usize) -> WordsRead
         0 => ended_at(s, at, Command::ParkingState),
         1 => ended_at(s, at, Command::Park),
         2 => ended_at(s, at, Command::Unpark),
-        _ => WordsRead::Refused(11),
+        _ => WordsRead::Refused(BADDATA),
     }
 }
 
@@ -71,7 +73,7 @@ fn tool_at(k: usize, s: &[u8], at: usize) -> WordsRead
         0 => read_storepos(s, at),
         1 => read_parking(s, at),
         2 => WordsRead::Command(Command::Echo),
-        _ => WordsRead::Refused(10),
+        _ => WordsRead::Refused(BADCOMMAND),
     }
 }
 

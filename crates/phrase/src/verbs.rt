@@ -14,6 +14,7 @@ use crate::operand::one_number;
 use crate::operand::read_setting;
 use command::Command;
 use command::Target;
+use laws::BADCOMMAND;
 
 // Behind `move` and the word at place k of those that may follow it.
 fn move_at(k: usize, s: &[u8], at: usize) -> WordsRead
@@ -26,7 +27,7 @@ fn move_at(k: usize, s: &[u8], at: usize) -> WordsRead
         3 => ended_at(s, at, Command::MoveTo(Target::Min)),
         4 => ended_at(s, at, Command::MoveTo(Target::Max)),
         5 => one_number(s, at, Numbered::MoveStored),
-        _ => WordsRead::Refused(10),
+        _ => WordsRead::Refused(BADCOMMAND),
     }
 }
 
@@ -43,7 +44,7 @@ fn get_of(s: &[u8], at: usize, x: SettingRead) -> WordsRead
     ensures { λ r. ⌜ r ≡ getOf x (cut (drop at (now (s .entry)))) ⌝ }
 {
     match x {
-        SettingRead::Unknown => WordsRead::Refused(10),
+        SettingRead::Unknown => WordsRead::Refused(BADCOMMAND),
         SettingRead::Is(t) => ended_at(s, at, Command::Get(t)),
     }
 }
@@ -61,10 +62,10 @@ fn set_of(s: &[u8], at: usize, x: SettingRead) -> WordsRead
     ensures { λ r. ⌜ r ≡ setOf x (cut (drop at (now (s .entry)))) ⌝ }
 {
     match x {
-        SettingRead::Unknown => WordsRead::Refused(10),
+        SettingRead::Unknown => WordsRead::Refused(BADCOMMAND),
         SettingRead::Is(t) => {
             if t.read_only() {
-                return WordsRead::Refused(10);
+                return WordsRead::Refused(BADCOMMAND);
             }
             one_number(s, at, Numbered::SetTo(t))
         }

@@ -34,7 +34,8 @@ trail-short (more {x = n} {xs = ns} h s) = rw (length-append (space ∷ decimal 
 pub values-length : {ns : List Number} → Each Short ns → length ns ≤ 4 → length (values ns) ≤ 47
 unfolding values spaced decimals
 values-length none h = omega arith
-values-length (more {x = n} {xs = ns} k s) h = rw (spaced-trail (decimal (n .0)) (decimals ns), length-append) (omega (arith, trail-short s))
+values-length (more {x = n} {xs = ns} k s) h = rw (spaced-trail (decimal (n .0)) (decimals ns), length-append)
+    (omega (arith, trail-short s))
 
 -- ---- the list of warnings: names of two bytes
 abbrev Two : List ℕ → Type 0
@@ -44,7 +45,8 @@ named-trail : (fs : List Bool) {ns : List (List ℕ)} → Each Two ns → length
 unfolding named trail
 named-trail [] t = omega arith
 named-trail (f ∷ fs) none = omega arith
-named-trail (true ∷ fs) (more {x = w} {xs = ws} h t) = rw (length-append (space ∷ w) (trail (named fs ws))) (omega (arith, named-trail fs t))
+named-trail (true ∷ fs) (more {x = w} {xs = ws} h t) =
+    rw (length-append (space ∷ w) (trail (named fs ws))) (omega (arith, named-trail fs t))
 named-trail (false ∷ fs) (more {x = w} {xs = ws} h t) = omega (arith, named-trail fs t)
 
 names-two : Each Two warningNames
@@ -60,12 +62,14 @@ trail-take : (k : ℕ) (ws : List (List ℕ)) → length (trail (take k ws)) ≤
 unfolding trail
 trail-take zero ws = omega arith
 trail-take (suc k) [] = omega arith
-trail-take (suc k) (w ∷ ws) = rw (length-append (space ∷ w) (trail (take k ws)), length-append (space ∷ w) (trail ws)) (omega (arith, trail-take k ws))
+trail-take (suc k) (w ∷ ws) = rw (length-append (space ∷ w) (trail (take k ws)), length-append (space ∷ w) (trail ws))
+    (omega (arith, trail-take k ws))
 
 echoed-some : (w : List ℕ) (ws : List (List ℕ)) → length (echoed (w ∷ ws)) + 1 ≤ length (trail (w ∷ ws))
 unfolding echoed trail
 echoed-some w ws =
-    rw (spaced-trail w (take 16 ws), length-append w (trail (take 16 ws)), length-append (space ∷ w) (trail ws)) (omega (arith, trail-take 16 ws))
+    rw (spaced-trail w (take 16 ws), length-append w (trail (take 16 ws)), length-append (space ∷ w) (trail ws))
+    (omega (arith, trail-take 16 ws))
 
 pub echoed-none : length (echoed []) ≡ 1
 unfolding echoed text
@@ -134,7 +138,12 @@ close-inside c s h b p =
 close-alone : (c : ℕ) (s : List ℕ) → begins (c ∷ s) ≡ true → begins s ≡ false → Close s (cut s) → Close (c ∷ s) ((c ∷ []) ∷ cut s)
 unfolding trail
 close-alone c s h b p =
-    record { some = λ e. omega arith; near = rw (length-append (space ∷ (c ∷ [])) (trail (cut s))) (omega (arith, p .gapped b)); gapped = λ e. clash h e }
+    record {
+      some = λ e. omega arith;
+      near = rw (length-append (space ∷ (c ∷ [])) (trail (cut s)))
+          (omega (arith, p .gapped b));
+      gapped = λ e. clash h e;
+    }
 
 cut-trail : (s : List ℕ) → length (trail (cut s)) ≤ length s + 1
 cut-trail s = by-cut Close close-none close-gap close-inside close-alone s .near
@@ -152,7 +161,8 @@ two-off (more x none) h = rw echoed-none (omega arith)
 two-off (more x (more y none)) h = rw echoed-none (omega arith)
 two-off (more {x = u} {xs = us} p (more {x = v} {xs = vs} q (more {x = w} {xs = ws} r e))) h =
     let k = echoed-some w ws in
-    let l : length (trail (w ∷ ws)) + 4 ≤ 79 = omega (arith, length-append (space ∷ u) (trail (v ∷ w ∷ ws)), length-append (space ∷ v) (trail (w ∷ ws))) in
+    let l : length (trail (w ∷ ws)) + 4 ≤ 79 = omega
+    (arith, length-append (space ∷ u) (trail (v ∷ w ∷ ws)), length-append (space ∷ v) (trail (w ∷ ws))) in
     omega arith
 
 -- so the echo of a content of at most 78 bytes fits, whatever words stand before the command's own
@@ -174,7 +184,8 @@ name-length n (more {x = r} {xs = rs} h s) = go (eqb n (r .number)) (name-length
 
 names-brief : Each Brief refusals
 unfolding refusals text
-names-brief = more (leb→le 10 10 tt) (more (leb→le 7 10 tt) (more (leb→le 7 10 tt) (more (leb→le 10 10 tt) (more (leb→le 8 10 tt) (more (leb→le 6 10 tt) (more (leb→le 10 10 tt) none))))))
+names-brief = more (leb→le 10 10 tt) (more (leb→le 7 10 tt)
+    (more (leb→le 7 10 tt) (more (leb→le 10 10 tt) (more (leb→le 8 10 tt) (more (leb→le 6 10 tt) (more (leb→le 10 10 tt) none))))))
 
 pub refusal-length : (n : ℕ) → length (refusalName n) ≤ 10
 unfolding refusalName

@@ -1,4 +1,4 @@
-pub mod Parts
+pub mod Pieces
 pub mod Writing
 pub mod Lists
 pub mod Lengths

@@ -23,8 +23,8 @@ use Rattle.flags.specs.Flags.{bits, named, count, warningNames}
 use Rattle.flags.proofs.Names.{warnings-number}
 use Rattle.buffer.specs.Wrote.{Wrote}
 use Rattle.reply.specs.Data.{values, warningsIn, warningList, echoed}
-use Rattle.reply.specs.Parts.{warningAt, nameIf, wordIf}
-use Rattle.reply.proofs.Parts.{word-yes, word-no}
+use Rattle.reply.specs.Pieces.{warningAt, nameIf, wordIf}
+use Rattle.reply.proofs.Pieces.{word-yes, word-no}
 use Rattle.reply.proofs.Writing.{Writing, writing-if, writing-more, writing-none}
 
 -- ---- values
@@ -56,7 +56,8 @@ list-split m = rw (warnings-number m) (spaced-trail _ _)
 
 module _ (left i : ℕ) where
   pub names-more : i < 8 → named (bits (8 - i) left) (drop i warningNames)
-      ≡ cond (eqb (left % 2) 1) (warningAt i ∷ named (bits (8 - (i + 1)) (left / 2)) (drop (i + 1) warningNames)) (named (bits (8 - (i + 1)) (left / 2)) (drop (i + 1) warningNames))
+      ≡ cond (eqb (left % 2) 1) (warningAt i ∷ named (bits (8 - (i + 1)) (left / 2)) (drop (i + 1) warningNames))
+      (named (bits (8 - (i + 1)) (left / 2)) (drop (i + 1) warningNames))
   unfolding bits named warningNames warningAt
   names-more h =
       let e : 8 - i ≡ suc (8 - (i + 1)) = omega arith in
@@ -66,8 +67,10 @@ module _ (left i : ℕ) where
   unfolding bits named
   names-end h = let e : 8 - i ≡ 0 = omega arith in rw e
 
-  pub names-turn : i < 8 → {b : List ℕ} {at : ℕ} {whole c d : List ℕ} {r q : ℕ} → Writing b at whole (named (bits (8 - i) left) (drop i warningNames)) c r
-      → Wrote c r (nameIf (eqb (left % 2) 1) i) d q → Writing b at whole (named (bits (8 - (i + 1)) (left / 2)) (drop (i + 1) warningNames)) d q
+  pub names-turn : i < 8 → {b : List ℕ} {at : ℕ} {whole c d : List ℕ} {r q : ℕ}
+      → Writing b at whole (named (bits (8 - i) left) (drop i warningNames)) c r
+      → Wrote c r (nameIf (eqb (left % 2) 1) i) d q
+      → Writing b at whole (named (bits (8 - (i + 1)) (left / 2)) (drop (i + 1) warningNames)) d q
   unfolding nameIf
   names-turn h p v = writing-if (eqb (left % 2) 1) (warningAt i) (rw (names-more h) at p) v
 

@@ -14,7 +14,7 @@ use Rattle.numbers.proofs.Decimal.{digits-length}
 use Rattle.buffer.specs.Wrote.{Wrote}
 use Rattle.buffer.proofs.Wrote.{_▸_, wrote-room, wrote-read}
 use Rattle.flags.specs.Flags.{bits, first, warningNames}
-use Rattle.reply.specs.Parts.{warningAt}
+use Rattle.reply.specs.Pieces.{warningAt}
 use Rattle.reply.specs.Reply.{verdict, status, highest, body, ending, reply}
 use Rattle.reply.specs.declared.Head.{Head}
 use Rattle.reply.proofs.Texts.{highest-is, gap, head-is, body-is}
@@ -56,7 +56,8 @@ behind-at s = refl
 
 -- an axis is one digit
 module _ (h : Head) (axis : h .axis < 10) where
-  pieces-length : length (text "@" ++ twoDigits (h .address) ++ gap ++ digits (h .axis) ++ gap ++ verdict (h .ok) ++ gap ++ status (h .busy) ++ gap ++ highest (h .warnings) ++ gap) ≤ 17
+  pieces-length : length (text "@" ++ twoDigits (h .address) ++ gap ++ digits (h .axis) ++ gap ++ verdict (h .ok) ++ gap
+      ++ status (h .busy) ++ gap ++ highest (h .warnings) ++ gap) ≤ 17
   unfolding text twoDigits
   pieces-length = simp (length-append, verdict-length, status-length, highest-length) (omega (arith, digits-length 0 (h .axis) axis))
 
@@ -76,10 +77,12 @@ module _ (h : Head) (axis : h .axis < 10) where
   unfolding reply
   reply-done sum words k {b} {c} {d} {e} {p} {q} {r} room u v w =
       let n = reply-length sum words k in
-      let all : text "@" ++ body h (text "") ++ words ≡ text "@" ++ body h words = append-assoc (text "@") (body h (text "")) words ∙ ap (λ (t : List ℕ). text "@" ++ t) (body-is h words) in
+      let all : text "@" ++ body h (text "") ++ words ≡ text "@" ++ body h words = append-assoc (text "@") (body h (text "")) words
+      ∙ ap (λ (t : List ℕ). text "@" ++ t) (body-is h words) in
       let front : Wrote b 0 (text "@" ++ body h words) d q = rw (← all) (u ▸ v) in
       let small : length (text "@" ++ body h words) ≤ length b = rw (← all, length-append) (omega (arith, head-length)) in
       let stands : take q d ≡ text "@" ++ body h words = wrote-read front small in
-      let whole : Wrote b 0 (text "@" ++ body h words ++ ending sum (body h words)) e r = front ▸ (rw (stands, behind-at (body h words)) at w) in
+      let whole : Wrote b 0 (text "@" ++ body h words ++ ending sum (body h words)) e r = front
+      ▸ (rw (stands, behind-at (body h words)) at w) in
       let k = wrote-room whole (omega arith) in
       (rw zero-add at (k .0), rw zero-add at (k .1))

@@ -15,7 +15,7 @@ use Rattle.numbers.specs.Decimal.{digits, twoDigits, hexPair}
 use Rattle.flags.specs.Flags.{bits, first}
 use Rattle.flags.proofs.Names.{warnings-highest}
 use Rattle.reply.specs.Data.{warningsIn}
-use Rattle.reply.specs.Parts.{warningAt}
+use Rattle.reply.specs.Pieces.{warningAt}
 use Rattle.reply.specs.Reply.{verdict, status, highest, body}
 use Rattle.reply.specs.declared.Head.{Head}
 
@@ -27,7 +27,8 @@ highest-is m = sym (warnings-highest m (text "--"))
 abbrev pub gap : List ℕ
 gap = space ∷ []
 
-pub head-is : (h : Head) → text "@" ++ twoDigits (h .address) ++ gap ++ digits (h .axis) ++ gap ++ verdict (h .ok) ++ gap ++ status (h .busy) ++ gap ++ highest (h .warnings) ++ gap ≡ text "@" ++ body h (text "")
+pub head-is : (h : Head) → text "@" ++ twoDigits (h .address) ++ gap ++ digits (h .axis) ++ gap ++ verdict (h .ok) ++ gap
+    ++ status (h .busy) ++ gap ++ highest (h .warnings) ++ gap ≡ text "@" ++ body h (text "")
 unfolding body spaced text
 head-is h = simp append-assoc
 
@@ -53,7 +54,8 @@ between (c ∷ b) (suc at) e f p q =
   where
     least : (k : ℕ) (l : List ℕ) → take (min k (length l)) l ≡ take k l
     least k l =
-        ⊎-elim (λ (h : length l < k). let m : min k (length l) ≡ length l = omega arith in rw m (take-all (length l) l (omega arith) ∙ sym (take-all k l (omega arith))))
+        ⊎-elim (λ (h : length l < k). let m : min k (length l) ≡ length l = omega arith in
+        rw m (take-all (length l) l (omega arith) ∙ sym (take-all k l (omega arith))))
         (λ h. let m : min k (length l) ≡ k = omega arith in rw m)
         (lt-or-le (length l) k)
 

@@ -20,14 +20,17 @@ writing-first b at ws = record { text = []; wrote = wrote-none b at; so = refl }
 
 module _ {b : List ℕ} {at : ℕ} {whole : List ℕ} where
   -- a word behind a space, or nothing
-  pub writing-if : {ws : List (List ℕ)} {c d : List ℕ} {r q : ℕ} (t : Bool) (w : List ℕ) → Writing b at whole (cond t (w ∷ ws) ws) c r → Wrote c r (cond t (space ∷ w) []) d q → Writing b at whole ws d q
+  pub writing-if : {ws : List (List ℕ)} {c d : List ℕ} {r q : ℕ} (t : Bool) (w : List ℕ) → Writing b at whole (cond t (w ∷ ws) ws) c r
+      → Wrote c r (cond t (space ∷ w) []) d q → Writing b at whole ws d q
   writing-if {ws} true w p v = record { text = p .text ++ (space ∷ w); wrote = p .wrote ▸ v; so = trail-more (p .text) w ws ∙ p .so }
   writing-if {ws} false w p v = record { text = p .text ++ []; wrote = p .wrote ▸ v; so = rw append-nil (p .so) }
 
-  pub writing-more : {ws : List (List ℕ)} {w c d : List ℕ} {r q : ℕ} → Writing b at whole (w ∷ ws) c r → Wrote c r (space ∷ w) d q → Writing b at whole ws d q
+  pub writing-more : {ws : List (List ℕ)} {w c d : List ℕ} {r q : ℕ} → Writing b at whole (w ∷ ws) c r → Wrote c r (space ∷ w) d q
+      → Writing b at whole ws d q
   writing-more {w = w} p v = writing-if true w p v
 
-  pub writing-none : {ws : List (List ℕ)} {c d : List ℕ} {r q : ℕ} → Writing b at whole ws c r → Wrote c r [] d q → Writing b at whole ws d q
+  pub writing-none : {ws : List (List ℕ)} {c d : List ℕ} {r q : ℕ} → Writing b at whole ws c r → Wrote c r [] d q
+      → Writing b at whole ws d q
   writing-none p v = writing-if false [] p v
 
   -- after the loop

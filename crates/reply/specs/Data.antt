@@ -7,6 +7,7 @@ use Prim.Native.String.{String}
 use lib.Dec.{eqb}
 use lib.ListN.{length, take}
 use Rattle.laws.specs.Text.{text, spaced}
+use Rattle.laws.specs.Refusals.{BADCOMMAND, BADDATA, BADAXIS, DEVICEONLY, NOACCESS, PARKED, STATUSBUSY}
 use Rattle.units.specs.declared.Number.{Number}
 use Rattle.numbers.specs.Decimal.{decimal, twoDigits}
 use Rattle.flags.specs.Flags.{bits, named, warningNames}
@@ -24,9 +25,12 @@ unfoldable pub warningList : ℕ → List ℕ
 warningList m = spaced (twoDigits (length (warningsIn m)) ∷ warningsIn m)
 
 -- "first 17 words, single spaces; 0 if none"
+abbrev pub echoedWords : ℕ
+echoedWords = 17
+
 unfoldable pub echoed : List (List ℕ) → List ℕ
 echoed [] = text "0"
-echoed (w ∷ ws) = spaced (take 17 (w ∷ ws))
+echoed (w ∷ ws) = spaced (take echoedWords (w ∷ ws))
 
 -- "the rejecting reply, its data the name": a refusal's number and its name
 pub record Named : Type 0 where
@@ -39,13 +43,13 @@ n is w = record { number = n; name = text w }
 
 unfoldable pub refusals : List Named
 refusals =
-    10 is "BADCOMMAND"
-    ∷ 11 is "BADDATA"
-    ∷ 12 is "BADAXIS"
-    ∷ 13 is "DEVICEONLY"
-    ∷ 14 is "NOACCESS"
-    ∷ 15 is "PARKED"
-    ∷ 16 is "STATUSBUSY"
+    BADCOMMAND is "BADCOMMAND"
+    ∷ BADDATA is "BADDATA"
+    ∷ BADAXIS is "BADAXIS"
+    ∷ DEVICEONLY is "DEVICEONLY"
+    ∷ NOACCESS is "NOACCESS"
+    ∷ PARKED is "PARKED"
+    ∷ STATUSBUSY is "STATUSBUSY"
     ∷ []
 
 -- the name of a number in such a table; no name for a number that is not in it

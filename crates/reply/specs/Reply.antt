@@ -10,6 +10,10 @@ use Rattle.numbers.specs.Decimal.{digits, twoDigits}
 use Rattle.reply.specs.Data.{warningsIn}
 use Rattle.reply.specs.declared.Head.{Head}
 
+-- "reply buffer under 96 bytes" is NOROOM: no reply is longer (proofs/Room.antt)
+abbrev pub longestReply : ℕ
+longestReply = 96
+
 unfoldable pub verdict : Bool → List ℕ
 verdict ok = cond ok (text "OK") (text "RJ")
 

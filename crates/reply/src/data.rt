@@ -1,23 +1,24 @@
 // Writes a reply's data into a lent buffer: values, the list of warnings, the words of an echo, a refusal's name.
-// specs/Data.antt says each of these texts; specs/Parts.antt those of the inner writers.
+// specs/Data.antt says each of these texts; specs/Pieces.antt those of the inner writers.
 ghost use mathlib.Core.Path.{_≡_};
-ghost use Prim.Native.Nat.{_+_, _≤_, min};
+ghost use Prim.Native.Nat.{_+_, _≤_};
 ghost use lib.Dec.{eqb};
 ghost use lib.ListN.{length, take, drop};
 ghost use Rattle.words.specs.Cutting.{cut};
 ghost use Rattle.buffer.specs.Wrote.{Wrote};
 ghost use Rattle.reply.specs.Data.{warningList, echoed, refusalName};
-ghost use Rattle.reply.specs.Parts.{warningAt, nameIf, wordIf};
+ghost use Rattle.reply.specs.Pieces.{warningAt, nameIf, wordIf};
 use buffer::put_byte;
 use buffer::put_text;
 use buffer::put_two;
+use laws::BADCOMMAND;
+use units::lesser;
 
-// The lesser of two.
-pub fn lesser(a: usize, b: usize) -> usize
-    ensures { λ r. ⌜ r ≡ min a b ⌝ }
-{
-    if a < b { a } else { b }
-}
+// "first 17 words": one, and these behind it.
+const MORE_WORDS: usize = 17 - 1;
+
+// The refusals that are replied have numbers from here on, one behind the other.
+const FIRST_REPLIED: usize = BADCOMMAND as usize;
 
 // The two bytes from a place on.
 fn two_from(s: &[u8], start: usize) -> &[u8]
@@ -40,10 +41,10 @@ pub fn put_warning(buf: &mut [u8], at: usize, place: u32) -> usize
 pub fn put_refusal(buf: &mut [u8], at: usize, number: u8) -> usize
     ensures { λ r. ⌜ Wrote (now (buf .entry)) at (refusalName number) (now (buf .exit)) r ⌝ }
 {
-    if number < 10 {
+    if number < BADCOMMAND {
         return at;
     }
-    let k = number as usize - 10;
+    let k = number as usize - FIRST_REPLIED;
     put_text(
         buf,
         at,
@@ -103,7 +104,7 @@ pub fn put_echo(buf: &mut [u8], at: usize, s: &[u8], from: usize) -> usize
     }
     let mut next = put_text(buf, at, first);
     let mut place = words::past_word(s, from);
-    let mut left: usize = 16;
+    let mut left: usize = MORE_WORDS;
     while (0 < left) & (place < s.len()) {
         next = put_word(buf, next, words::first_word(s, place));
         place = words::past_word(s, place);

@@ -7,13 +7,16 @@ ghost use Rattle.laws.specs.Text.{text};
 ghost use Rattle.numbers.specs.Checksum.{checksum, sumText};
 ghost use Rattle.buffer.specs.Wrote.{Wrote};
 ghost use Rattle.reply.specs.Reply.{verdict, status, body, ending};
-use crate::data::lesser;
 use crate::data::put_warning;
 use buffer::put_byte;
 use buffer::put_number;
 use buffer::put_pair;
 use buffer::put_text;
 use buffer::put_two;
+use units::lesser;
+
+// No reply is longer, so that a buffer of this length has room for each.
+pub const LONGEST_REPLY: usize = 96;
 
 // What stands before a reply's data. The mask has a bit for each warning, the highest first.
 pub struct Head {

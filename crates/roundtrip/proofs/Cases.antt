@@ -69,9 +69,11 @@ abbrev numbered : Outcome → ℕ
 numbered o = o .answer .number
 
 pub number-cases : map (λ r. numbered (written r)) rows ≡ map (λ r. r .number) rows
-unfolding rows writeLine writerRefusal firstOf unspellable lineText lineEnd lineWords spaced text fold dataByte nameOf cut isSpace noSpace grow total checksum sumText lastDigit digitsWithin digits decimal twoDigits hexDigit hexPair
+unfolding rows writeLine writerRefusal firstOf unspellable lineText lineEnd lineWords spaced text fold dataByte nameOf cut isSpace noSpace
+    grow total checksum sumText lastDigit digitsWithin digits decimal twoDigits hexDigit hexPair
 number-cases = refl
 
 pub line-cases : map (λ r. take (written r .answer .length) (written r .buffer)) rows ≡ map (λ r. r .line) rows
-unfolding rows writeLine writerRefusal firstOf unspellable lineText lineEnd lineWords spaced text fold dataByte nameOf cut isSpace noSpace grow total checksum sumText lastDigit digitsWithin digits decimal twoDigits hexDigit hexPair
+unfolding rows writeLine writerRefusal firstOf unspellable lineText lineEnd lineWords spaced text fold dataByte nameOf cut isSpace noSpace
+    grow total checksum sumText lastDigit digitsWithin digits decimal twoDigits hexDigit hexPair
 line-cases = refl

@@ -10,7 +10,7 @@ use Rattle.laws.specs.Text.{text}
 use Rattle.numbers.specs.Decimal.{lastDigit, twoDigits}
 use Rattle.numbers.proofs.Decimal.{digits-one}
 use Rattle.flags.specs.Flags.{warningNames, bits, first}
-use Rattle.reply.specs.Parts.{warningAt}
+use Rattle.reply.specs.Pieces.{warningAt}
 use Rattle.reply.specs.Reply.{verdict, status, highest, body, ending, reply}
 use Rattle.reply.specs.declared.Head.{Head}
 use Rattle.reply.proofs.Texts.{highest-is}
@@ -48,7 +48,8 @@ module _ (h : Head) (words : List ℕ) (one : h .axis < 10) where
   unfolding body twoDigits lastDigit
   behind-head e =
       rw (digits-one (h .axis) one)
-      (found (48 + h .address / 10 % 10) (48 + h .address % 10) (48 + h .axis % 10) words e (two-verdict (h .ok)) (four-status (h .busy)) (two-highest (h .warnings)) .behind)
+      (found (48 + h .address / 10 % 10) (48 + h .address % 10) (48 + h .axis % 10) words e (two-verdict (h .ok)) (four-status (h .busy))
+      (two-highest (h .warnings)) .behind)
 
   pub data-stands : (sum : Bool) → field (reply h sum words) 17 (length words) ≡ words
   unfolding field reply

@@ -36,7 +36,8 @@ axis-word : (k : ℕ) → k ≤ 9 → AxisWord (digits k) k
 unfolding lastDigit
 axis-word k h =
     let small : k < 10 = omega arith in
-    rw (digits-one k small) (subst (AxisWord (lastDigit k)) (mod-eq-of-lt small) (AxisWord.digit (Digit.figure (omega arith) (omega arith) refl)))
+    rw (digits-one k small) (subst (AxisWord (lastDigit k)) (mod-eq-of-lt small)
+    (AxisWord.digit (Digit.figure (omega arith) (omega arith) refl)))
 
 sum-byte : (s : List ℕ) → checksum s < 256
 unfolding checksum
@@ -60,7 +61,8 @@ module _ (address axis : ℕ) (c : Command) (message : List ℕ) (sum : Bool) (b
   unfolding writerRefusal firstOf unspellable
   accepted e = one (ltb (length b) 80) refl
     where
-      three : (t : Bool) → ltb 80 (length (lineText address axis c message sum)) ≡ t → ltb (length b) 80 ≡ false → unspellable address axis c message ≡ false → Accepted address axis c message sum b
+      three : (t : Bool) → ltb 80 (length (lineText address axis c message sum)) ≡ t → ltb (length b) 80 ≡ false
+          → unspellable address axis c message ≡ false → Accepted address axis c message sum b
       three true h p q = let y = rw (p, q, h) at e in absurd (omega arith)
       three false h p q =
           let u = or-left (ltb 99 address || ltb 9 axis) (unfit c message) q in
@@ -104,11 +106,13 @@ module _ (address axis : ℕ) (c : Command) (message : List ℕ) (sum : Bool) (b
 
   -- so what the writer leaves in the buffer, where its number is 0, reads back
   pub buffer-reads-back : Held c → writeLine address axis c message sum b .answer .number ≡ 0
-      → readAsked (take (writeLine address axis c message sum b .answer .length) (writeLine address axis c message sum b .buffer)) ≡ some (asked address axis c message)
+      → readAsked (take (writeLine address axis c message sum b .answer .length) (writeLine address axis c message sum b .buffer)) ≡ some
+      (asked address axis c message)
   unfolding writeLine
   buffer-reads-back held e = go (eqb (writerRefusal address axis c message sum b) 0) refl
     where
       go : (t : Bool) → eqb (writerRefusal address axis c message sum b) 0 ≡ t
-          → readAsked (take (writeLine address axis c message sum b .answer .length) (writeLine address axis c message sum b .buffer)) ≡ some (asked address axis c message)
+          → readAsked (take (writeLine address axis c message sum b .answer .length) (writeLine address axis c message sum b .buffer))
+          ≡ some (asked address axis c message)
       go true h = rw (h, take-at (lineText address axis c message sum) _ _ refl) (reads-back held (eqb-true _ 0 h))
       go false h = clash (eq-eqb _ 0 (rw h at e)) h

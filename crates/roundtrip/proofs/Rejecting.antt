@@ -64,7 +64,8 @@ unfolding firstOf
 first-in P none z = absurd (z refl)
 first-in P (more {x = r} {xs = rows} h hs) z = go (r .applies) z (first-in P hs)
   where
-    go : (t : Bool) → (cond t (r .number) (firstOf rows) ≡ 0 → ⊥) → ((firstOf rows ≡ 0 → ⊥) → P (firstOf rows)) → P (cond t (r .number) (firstOf rows))
+    go : (t : Bool) → (cond t (r .number) (firstOf rows) ≡ 0 → ⊥) → ((firstOf rows ≡ 0 → ⊥) → P (firstOf rows))
+        → P (cond t (r .number) (firstOf rows))
     go true z ih = h
     go false z ih = ih z
 
@@ -82,7 +83,8 @@ either : (t : Bool) (a b : WordsRead) → WordsReject a → WordsReject b → Wo
 either true a b h k = h
 either false a b h k = k
 
-meaning-rejects : (w : List ℕ) (x : WordsRead) {es : List (Entry WordsRead)} → WordsReject x → Each (λ (e : Entry WordsRead). WordsReject (e .meaning)) es → WordsReject (meaningOf x w es)
+meaning-rejects : (w : List ℕ) (x : WordsRead) {es : List (Entry WordsRead)} → WordsReject x
+    → Each (λ (e : Entry WordsRead). WordsReject (e .meaning)) es → WordsReject (meaningOf x w es)
 unfolding meaningOf
 meaning-rejects w x h none = h
 meaning-rejects w x h (more {x = e} {xs = es} k ks) = either (same w (e .word)) (e .meaning) (meaningOf x w es) k (meaning-rejects w x h ks)
@@ -128,7 +130,8 @@ set-rejects ws = go (readSetting (headWord ws))
   where
     go : (s : SettingRead) → WordsReject (setOf s (tailWords ws))
     go Unknown = bad-command
-    go (Is s) = either (readOnly s) (Words.Refused 10) (oneNumber (With.SetTo s) (tailWords ws)) bad-command (number-rejects (With.SetTo s) (tailWords ws))
+    go (Is s) = either (readOnly s) (Words.Refused 10) (oneNumber (With.SetTo s) (tailWords ws)) bad-command
+        (number-rejects (With.SetTo s) (tailWords ws))
 
 store-rejects : (r : NumberRead) (v : List ℕ) → WordsReject (storeAt r v)
 store-rejects (Number.Refused p) v = bad-data
@@ -160,7 +163,8 @@ tools-rejects ws =
 warnings-rejects : (ws : List (List ℕ)) → WordsReject (readWarnings ws)
 unfolding readWarnings
 warnings-rejects [] = tt
-warnings-rejects (w ∷ ws) = either (same w (text "clear")) (ended WarningsClear ws) (Words.Refused 11) (ended-rejects WarningsClear ws) bad-data
+warnings-rejects (w ∷ ws) = either (same w (text "clear")) (ended WarningsClear ws) (Words.Refused 11)
+    (ended-rejects WarningsClear ws) bad-data
 
 command-rejects : (ws : List (List ℕ)) → WordsReject (readCommand ws)
 unfolding readCommand
@@ -190,7 +194,8 @@ unfolding axisOf
 axis-rejects n ws =
     let k = axisDigit (headWord ws) in
     one-line (ltb k 10) (Addressed n k 2 (readCommand (tailWords ws))) (Addressed n 0 1 (readCommand ws))
-    (words-line n k 2 (readCommand (tailWords ws)) (command-rejects (tailWords ws))) (words-line n 0 1 (readCommand ws) (command-rejects ws))
+    (words-line n k 2 (readCommand (tailWords ws)) (command-rejects (tailWords ws)))
+    (words-line n 0 1 (readCommand ws) (command-rejects ws))
 
 address-rejects : (u : UnsignedRead) (ws : List (List ℕ)) → Rejects Rejecting (addressOf u ws)
 address-rejects (Unsigned.Refused p) ws = tt

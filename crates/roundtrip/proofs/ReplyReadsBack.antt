@@ -45,13 +45,14 @@ pub record Understood (s : Stepped) : Type 0 where
   pub words : List ℕ
   pub right : ok ≡ eqb (s .answer .number) 0
   pub name : ok ≡ false → words ≡ refusalName (s .answer .number)
-  pub heard : readReply (replyIn s) ≡ Reply (heardOf (headOf (s .answer .next) axis ok) words)
+  pub message : readReply (replyIn s) ≡ Reply (heardOf (headOf (s .answer .next) axis ok) words)
   pub data-is : field (replyIn s) 17 (length words) ≡ words
 
 -- ---- a record that replies is good
 replies-good : (d : Device) (l b : List ℕ) → (step d l b .answer .length ≡ 0 → ⊥) → good d ≡ true
 unfolding silent
-replies-good d l b = every-answer (λ s. (s .answer .length ≡ 0 → ⊥) → good d ≡ true) d l b (λ h. absurd (h refl)) (λ n k g h. g) (λ k skip c g e h. g)
+replies-good d l b = every-answer (λ s. (s .answer .length ≡ 0 → ⊥) → good d ≡ true) d l b (λ h. absurd (h refl)) (λ n k g h. g)
+    (λ k skip c g e h. g)
 
 -- ---- one reply
 module _ (n : ℕ) (d : Device) (k : ℕ) (ok : Bool) (words b : List ℕ) (g : good d ≡ true) (said : Data words) (short : length words ≤ 74)
@@ -69,7 +70,8 @@ module _ (n : ℕ) (d : Device) (k : ℕ) (ok : Bool) (words b : List ℕ) (g : 
         words = words;
         right = right;
         name = name;
-        heard = ap readReply front ∙ reads-back (headOf d k ok) (wantsSum d) words (address .0) (address .1) (omega (arith, digit)) said short;
+        message = ap readReply front ∙ reads-back (headOf d k ok) (wantsSum d) words (address .0) (address .1)
+            (omega (arith, digit)) said short;
         data-is = ap (λ (x : List ℕ). field x 17 (length words)) front ∙ data-stands (headOf d k ok) words digit (wantsSum d);
       }
 
@@ -89,7 +91,8 @@ reply-reads-back d l b four h =
     let good-next = good-goes-on d l b four (replies-good d l b h) in
     let s = content-of l in
     each-answer (λ s. (s .answer .length ≡ 0 → ⊥) → good (s .answer .next) ≡ true → Understood s) Rejecting d l b (λ h. absurd (h refl))
-    (λ n k r g h after. reply-understood n d k false (refusalName n) b after (name-data r) (omega (arith, refusal-length n)) (not-zero r) (λ e. refl))
+    (λ n k r g h after. reply-understood n d k false (refusalName n) b after (name-data r) (omega (arith, refusal-length n)) (not-zero r)
+    (λ e. refl))
     (λ k skip c g e h after.
     reply-understood 0 (next d k c) k true (dataOf d k (echoOf c (drop skip (wordsOf l))) c) b after
     (data-said d k c four g e (echo-words c (each-drop skip (line-words l))))

@@ -61,7 +61,8 @@ module _ (d : Device) (k : ℕ) (four : length (d .axes) ≡ 4) (some : 1 ≤ d 
   axes-some : 0 < length (axesOf d k)
   unfolding axesOf many
   axes-some =
-      ⊎-elim (λ (z : k ≡ 0). rw (eq-eqb k 0 z, length-take, length-drop) (omega arith)) (λ (z : k ≡ 0 → ⊥). rw (ne-eqb k 0 z, length-take, length-drop) (omega arith)) (eq-or-ne k 0)
+      ⊎-elim (λ (z : k ≡ 0). rw (eq-eqb k 0 z, length-take, length-drop) (omega arith))
+      (λ (z : k ≡ 0 → ⊥). rw (ne-eqb k 0 z, length-take, length-drop) (omega arith)) (eq-or-ne k 0)
 
   values-said : (v : Value) → Data (values (valuesOf v d k))
   unfolding valuesOf
@@ -82,7 +83,8 @@ module _ (d : Device) (k : ℕ) (four : length (d .axes) ≡ 4) (some : 1 ≤ d 
       go false = one-data (word-of (text "0") refl)
   text-said h Shown.Words = echoed-data h
 
-pub data-said : {ws : List (List ℕ)} (d : Device) (k : ℕ) (c : Command) → length (d .axes) ≡ 4 → good d ≡ true → refusal d k c ≡ 0 → Each Word ws → Data (dataOf d k ws c)
+pub data-said : {ws : List (List ℕ)} (d : Device) (k : ℕ) (c : Command) → length (d .axes) ≡ 4 → good d ≡ true → refusal d k c ≡ 0
+    → Each Word ws → Data (dataOf d k ws c)
 unfolding dataOf badAxis
 data-said d k c four g e h =
     text-said d k four (good-some d g) (good-count d g) (ltb-false (d .count) k (within-count d k c e)) h (shownBy c)

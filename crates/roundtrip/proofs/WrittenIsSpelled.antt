@@ -14,5 +14,6 @@ use Rattle.roundtrip.proofs.ReadsBack.{asked, buffer-reads-back}
 
 pub written-is-spelled : (address axis : ℕ) (c : Command) (message : List ℕ) (sum : Bool) (b : List ℕ) → Held c
     → writeLine address axis c message sum b .answer .number ≡ 0
-    → Line (take (writeLine address axis c message sum b .answer .length) (writeLine address axis c message sum b .buffer)) (asked address axis c message)
+    → Line (take (writeLine address axis c message sum b .answer .length) (writeLine address axis c message sum b .buffer))
+    (asked address axis c message)
 written-is-spelled address axis c message sum b held e = demand-3 _ _ .1 (buffer-reads-back address axis c message sum b held e)

@@ -48,7 +48,8 @@ isWord (c ∷ d ∷ w) = wordByte c && isWord (d ∷ w)
 pub word-of : (w : List ℕ) → isWord w ≡ true → Word w
 word-of [] t = clash t refl
 word-of (c ∷ []) t = Word.one (byte-of c t)
-word-of (c ∷ d ∷ w) t = Word.more (byte-of c (and-left (wordByte c) (isWord (d ∷ w)) t)) (word-of (d ∷ w) (and-right (wordByte c) (isWord (d ∷ w)) t))
+word-of (c ∷ d ∷ w) t = Word.more (byte-of c (and-left (wordByte c) (isWord (d ∷ w)) t))
+    (word-of (d ∷ w) (and-right (wordByte c) (isWord (d ∷ w)) t))
 
 pub name-word : (s : Setting) → Word (nameOf s)
 unfolding nameOf text

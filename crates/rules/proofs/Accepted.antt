@@ -21,7 +21,8 @@ module _ (d : Device) (k : ℕ) (c : Command) (e : refusal d k c ≡ 0) where
   unfolding refusal
   within-count = unmet 11 (badAxis d k) _ e
 
-  past-12 : firstOf (13 when deviceOnly k c ∷ 14 when noAccess d c ∷ 15 when parked d c ∷ 16 when statusBusy d k c ∷ 11 when badData d k c ∷ []) ≡ 0
+  past-12 : firstOf (13 when deviceOnly k c ∷ 14 when noAccess d c ∷ 15 when parked d c ∷ 16 when statusBusy d k c ∷ 11 when badData d k c
+      ∷ []) ≡ 0
   unfolding refusal
   past-12 = below 11 (badAxis d k) _ e
 

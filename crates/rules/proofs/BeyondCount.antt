@@ -68,7 +68,8 @@ pub beyond-count : (d : Device) (k : ℕ) (c : Command) (i : ℕ) → d .count �
 unfolding obey next badAxis
 beyond-count d k c i l =
     elim (ℕ-discrete (obey d k c .number) 0) [
-      | yes e ↦ ap (λ (x : Device). at x i) (accepted-next d k c e) ∙ rw (after-axes c (onAxes (axisAfter c) k d)) (beyond-axes (axisAfter c) d k i (ltb-false (d .count) k (within-count d k c e)) l)
+      | yes e ↦ ap (λ (x : Device). at x i) (accepted-next d k c e)
+          ∙ rw (after-axes c (onAxes (axisAfter c) k d)) (beyond-axes (axisAfter c) d k i (ltb-false (d .count) k (within-count d k c e)) l)
       | no h ↦ ap (λ (x : Device). at x i) (refusal-keeps d k c h)
     ]
 
@@ -77,7 +78,8 @@ unfolding report isAxis
 report-beyond d axis r i l =
     let k = place (axis .0) in
     elim (ℕ-discrete (report d axis r .number) 0) [
-      | yes e ↦ ap (λ (x : Device). at x i) (report-next d axis r e) ∙ beyond-axes (reported r) d k i (leb-true k (d .count) (and-right (leb 1 k) (leb k (d .count)) (an-axis d k r e))) l
+      | yes e ↦ ap (λ (x : Device). at x i) (report-next d axis r e)
+          ∙ beyond-axes (reported r) d k i (leb-true k (d .count) (and-right (leb 1 k) (leb k (d .count)) (an-axis d k r e))) l
       | no h ↦ ap (λ (x : Device). at x i) (report-keeps d axis r h)
     ]
 
@@ -90,6 +92,7 @@ pub places-stay : (d : Device) (k : ℕ) (c : Command) → length (obey d k c .n
 unfolding next
 places-stay d k c =
     elim (ℕ-discrete (obey d k c .number) 0) [
-      | yes e ↦ ap (λ (x : Device). length (x .axes)) (accepted-next d k c e) ∙ rw (after-axes c (onAxes (axisAfter c) k d)) (length-axes (axisAfter c) k d)
+      | yes e ↦ ap (λ (x : Device). length (x .axes)) (accepted-next d k c e)
+          ∙ rw (after-axes c (onAxes (axisAfter c) k d)) (length-axes (axisAfter c) k d)
       | no h ↦ ap (λ (x : Device). length (x .axes)) (refusal-keeps d k c h)
     ]

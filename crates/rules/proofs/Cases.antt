@@ -79,38 +79,45 @@ cases =
     ∷ []
 
 all-cases : map (λ (c : Case). obey (c .device) (c .axis) (c .command) .number) cases ≡ map (λ (c : Case). c .number) cases
-unfolding cases new told homed homing inPark obey refusal firstOf badAxis deviceOnly noAccess parked statusBusy badData next onAxes axesOf many fold changeFrom changeFirst mayMoveTo mayRunAt mayStore stored moved store stopped fresh freshAxis freshSettings good goodAxis axisSettings deviceSettings report reportOf reportRefusal badReport isAxis raise raised
+unfolding cases new told homed homing inPark obey refusal firstOf badAxis deviceOnly noAccess parked statusBusy badData next onAxes axesOf
+    many fold changeFrom changeFirst mayMoveTo mayRunAt mayStore stored moved store stopped fresh freshAxis freshSettings good goodAxis
+    axisSettings deviceSettings report reportOf reportRefusal badReport isAxis raise raised
 all-cases = refl
 
 -- and motor reports: a record, an axis, a kind, the last number, and the number that is expected
-record Heard : Type 0 where
+record Reported : Type 0 where
   device : Device
   axis : ℕ
   kind : ℕ
   last : ℤ
   number : ℕ
 
-infix 20 _on_hears_with_gives_
-abbrev _on_hears_with_gives_ : Device → ℕ → ℕ → ℤ → ℕ → Heard
-d on k hears q with p gives n = record { device = d; axis = k; kind = q; last = p; number = n }
+infix 20 _on_reports_with_gives_
+abbrev _on_reports_with_gives_ : Device → ℕ → ℕ → ℤ → ℕ → Reported
+d on k reports q with p gives n = record { device = d; axis = k; kind = q; last = p; number = n }
 
-unfoldable reports : List Heard
-reports =
-    (new on 1 hears 1 with pos 0 gives 22)
-    ∷ (new on 1 hears 3 with pos 0 gives 22)
-    ∷ (new on 1 hears 4 with pos 7 gives 0)
-    ∷ (new on 1 hears 4 with pos 8 gives 22)
-    ∷ (new on 1 hears 5 with pos 0 gives 0)
-    ∷ (new on 1 hears 6 with pos 0 gives 22)
-    ∷ (new on 0 hears 5 with pos 0 gives 22)
-    ∷ (new on 3 hears 5 with pos 0 gives 22)
-    ∷ (homing on 2 hears 1 with pos 1000000000 gives 0)
-    ∷ (homing on 2 hears 1 with pos 1000000001 gives 22)
-    ∷ (homing on 2 hears 3 with minus 5 gives 0)
-    ∷ (obey homing 2 Stop .next on 2 hears 3 with pos 0 gives 22)
-    ∷ (obey homing 2 Stop .next on 2 hears 2 with pos 0 gives 0)
+unfoldable motor-reports : List Reported
+motor-reports =
+    (new on 1 reports 1 with pos 0 gives 22)
+    ∷ (new on 1 reports 3 with pos 0 gives 22)
+    ∷ (new on 1 reports 4 with pos 7 gives 0)
+    ∷ (new on 1 reports 4 with pos 8 gives 22)
+    ∷ (new on 1 reports 5 with pos 0 gives 0)
+    ∷ (new on 1 reports 6 with pos 0 gives 22)
+    ∷ (new on 0 reports 5 with pos 0 gives 22)
+    ∷ (new on 3 reports 5 with pos 0 gives 22)
+    ∷ (homing on 2 reports 1 with pos 1000000000 gives 0)
+    ∷ (homing on 2 reports 1 with pos 1000000001 gives 22)
+    ∷ (homing on 2 reports 3 with minus 5 gives 0)
+    ∷ (obey homing 2 Stop .next on 2 reports 3 with pos 0 gives 22)
+    ∷ (obey homing 2 Stop .next on 2 reports 2 with pos 0 gives 0)
     ∷ []
 
-all-reports : map (λ (c : Heard). report (c .device) (number (pos (c .axis))) (reportOf (number (pos (c .kind))) (number (c .last))) .number) reports ≡ map (λ (c : Heard). c .number) reports
-unfolding reports new homing obey refusal firstOf badAxis deviceOnly noAccess parked statusBusy badData next onAxes axesOf many fold changeFrom changeFirst stopped fresh freshAxis freshSettings good goodAxis axisSettings deviceSettings report reportOf reportRefusal badReport isAxis raise raised
+abbrev answer : Reported → ℕ
+answer c = report (c .device) (number (pos (c .axis))) (reportOf (number (pos (c .kind))) (number (c .last))) .number
+
+all-reports : map answer motor-reports ≡ map (λ (c : Reported). c .number) motor-reports
+unfolding motor-reports new homing obey refusal firstOf badAxis deviceOnly noAccess parked statusBusy badData next onAxes axesOf many fold
+    changeFrom changeFirst stopped fresh freshAxis freshSettings good goodAxis axisSettings deviceSettings report reportOf reportRefusal
+    badReport isAxis raise raised
 all-reports = refl

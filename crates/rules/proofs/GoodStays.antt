@@ -43,7 +43,12 @@ parts d h =
     let a = all (inRange d) deviceSettings in
     let b = all goodAxis (axesOf d 0) in
     let c = not (d .parked && any moving (axesOf d 0)) in
-    record { settings = and-left a (b && c) h; axes = and-left b c (and-right a (b && c) h); still = and-right b c (and-right a (b && c) h) }
+    record {
+      settings = and-left a (b && c) h;
+      axes =
+          and-left b c (and-right a (b && c) h);
+      still = and-right b c (and-right a (b && c) h);
+    }
 
 pub whole : (d : Device) → Good d → good d ≡ true
 unfolding good
@@ -67,7 +72,8 @@ and-true-false false b h e = refl
 rests : (m : Bool) → not (true && m) ≡ true → m ≡ false
 rests m e = not-true m e
 
-module _ (d : Device) (k : ℕ) (g : Axis → Axis) (q : Axis → Bool) (permitted : all q (axesOf d k) ≡ true) (keeps : (a : Axis) → q a ≡ true → goodAxis a ≡ true → goodAxis (g a) ≡ true) where
+module _ (d : Device) (k : ℕ) (g : Axis → Axis) (q : Axis → Bool) (permitted : all q (axesOf d k) ≡ true)
+    (keeps : (a : Axis) → q a ≡ true → goodAxis a ≡ true → goodAxis (g a) ≡ true) where
   axes-good : Good d → all goodAxis (axesOf (onAxes g k d) 0) ≡ true
   unfolding axesOf onAxes many
   axes-good h = all-where goodAxis q g keeps (k - 1) (many d k) (d .count) (d .axes) permitted (h .axes)
@@ -75,10 +81,16 @@ module _ (d : Device) (k : ℕ) (g : Axis → Axis) (q : Axis → Bool) (permitt
   -- axes changed, each from good to good, on a device that is not parked
   pub moved-good : Good d → d .parked ≡ false → Good (onAxes g k d)
   unfolding onAxes fold deviceSettings
-  moved-good h p = record { settings = h .settings; axes = axes-good h; still = unparked (d .parked) (any moving (axesOf (onAxes g k d) 0)) p }
+  moved-good h p = record {
+    settings = h .settings;
+    axes = axes-good h;
+    still =
+        unparked (d .parked) (any moving (axesOf (onAxes g k d) 0)) p;
+  }
 
   -- or by a change that sets none in motion
-  rest-after : ((a : Axis) → moving a ≡ false → moving (g a) ≡ false) → (p : Bool) → not (p && any moving (axesOf d 0)) ≡ true → not (p && any moving (axesOf (onAxes g k d) 0)) ≡ true
+  rest-after : ((a : Axis) → moving a ≡ false → moving (g a) ≡ false) → (p : Bool) → not (p && any moving (axesOf d 0)) ≡ true
+      → not (p && any moving (axesOf (onAxes g k d) 0)) ≡ true
   unfolding axesOf onAxes many
   rest-after rest true h = at-rest true _ (none-after moving g rest (k - 1) (many d k) (d .count) (d .axes) (rests _ h))
   rest-after rest false h = refl
@@ -89,7 +101,8 @@ module _ (d : Device) (k : ℕ) (g : Axis → Axis) (q : Axis → Bool) (permitt
 
 -- all settings of the device pass a test where each does, and each where all do
 module _ (f : DeviceSetting → Bool) where
-  every : f CommAddress ≡ true → f CommAlert ≡ true → f CommChecksum ≡ true → f SystemAccess ≡ true → f DeviceId ≡ true → f SystemAxisCount ≡ true → all f deviceSettings ≡ true
+  every : f CommAddress ≡ true → f CommAlert ≡ true → f CommChecksum ≡ true → f SystemAccess ≡ true → f DeviceId ≡ true
+      → f SystemAxisCount ≡ true → all f deviceSettings ≡ true
   unfolding fold deviceSettings
   every a b c e g h = simp (a, b, c, e, g, h)
 
@@ -110,13 +123,33 @@ module _ (n : Number) (d : Device) (h : Good d) where
   put-good : (x : DeviceSetting) → within (deviceRange x) (n .0) ≡ true → Good (put x n d)
   unfolding axesOf many
   put-good CommAddress w =
-      record { settings = every (inRange (put CommAddress n d)) w (old CommAlert) (old CommChecksum) (old SystemAccess) (old DeviceId) (old SystemAxisCount); axes = h .axes; still = h .still }
+      record {
+        settings = every (inRange (put CommAddress n d)) w (old CommAlert) (old CommChecksum) (old SystemAccess) (old DeviceId)
+            (old SystemAxisCount);
+        axes = h .axes;
+        still = h .still;
+      }
   put-good CommAlert w =
-      record { settings = every (inRange (put CommAlert n d)) (old CommAddress) w (old CommChecksum) (old SystemAccess) (old DeviceId) (old SystemAxisCount); axes = h .axes; still = h .still }
+      record {
+        settings = every (inRange (put CommAlert n d)) (old CommAddress) w (old CommChecksum) (old SystemAccess) (old DeviceId)
+            (old SystemAxisCount);
+        axes = h .axes;
+        still = h .still;
+      }
   put-good CommChecksum w =
-      record { settings = every (inRange (put CommChecksum n d)) (old CommAddress) (old CommAlert) w (old SystemAccess) (old DeviceId) (old SystemAxisCount); axes = h .axes; still = h .still }
+      record {
+        settings = every (inRange (put CommChecksum n d)) (old CommAddress) (old CommAlert) w (old SystemAccess) (old DeviceId)
+            (old SystemAxisCount);
+        axes = h .axes;
+        still = h .still;
+      }
   put-good SystemAccess w =
-      record { settings = every (inRange (put SystemAccess n d)) (old CommAddress) (old CommAlert) (old CommChecksum) w (old DeviceId) (old SystemAxisCount); axes = h .axes; still = h .still }
+      record {
+        settings = every (inRange (put SystemAccess n d)) (old CommAddress) (old CommAlert) (old CommChecksum) w (old DeviceId)
+            (old SystemAxisCount);
+        axes = h .axes;
+        still = h .still;
+      }
   put-good DeviceId w = h
   put-good SystemAxisCount w = h
 
@@ -138,7 +171,8 @@ module _ (d : Device) (k : ℕ) (c : Command) (h : Good d) (e : refusal d k c �
   -- the axes after the command: on a parked device, none is set in motion
   axes-after : (u : Bool) → demands c .unparked ≡ u → parked d c ≡ false → Good (onAxes (axisAfter c) k d)
   unfolding parked
-  axes-after true u p = moved-good d k (axisAfter c) (permits c) (each-permits d k c e) (after-good c) h (and-true-false (d .parked) (demands c .unparked) u p)
+  axes-after true u p = moved-good d k (axisAfter c) (permits c) (each-permits d k c e) (after-good c) h
+      (and-true-false (d .parked) (demands c .unparked) u p)
   axes-after false u p = still-good d k (axisAfter c) (permits c) (each-permits d k c e) (after-good c) h (after-still c u)
 
   changed : Good (onAxes (axisAfter c) k d)
@@ -164,7 +198,8 @@ next-good d k (Get s) four h e = changed d k (Get s) h e
 next-good d k (Set (OfAxis x) n) four h e = changed d k (Set (OfAxis x) n) h e
 next-good d k (Set (OfDevice x) n) four h e =
     put-good n (onAxes (axisAfter (Set (OfDevice x) n)) k d) (changed d k (Set (OfDevice x) n) h e) x
-    (in-range d four h k (whole-device k (in-scope d k (Set (OfDevice x) n) e)) (within (deviceRange x) (n .0)) (each-permits d k (Set (OfDevice x) n) e))
+    (in-range d four h k (whole-device k (in-scope d k (Set (OfDevice x) n) e)) (within (deviceRange x) (n .0))
+    (each-permits d k (Set (OfDevice x) n) e))
 next-good d k (Storepos n) four h e = changed d k (Storepos n) h e
 next-good d k (StoreposAt n p) four h e = changed d k (StoreposAt n p) h e
 next-good d k (StoreposCurrent n) four h e = changed d k (StoreposCurrent n) h e
@@ -192,6 +227,7 @@ unfolding report
 report-good d axis r h =
     let k = place (axis .0) in
     elim (ℕ-discrete (report d axis r .number) 0) [
-      | yes e ↦ rw (report-next d axis r e) (whole (onAxes (reported r) k d) (still-good d k (reported r) (takes r) (taken d k r e) (λ a t g. reported-good a g r t) (parts d h) (reported-still r)))
+      | yes e ↦ rw (report-next d axis r e) (whole (onAxes (reported r) k d)
+          (still-good d k (reported r) (takes r) (taken d k r e) (λ a t g. reported-good a g r t) (parts d h) (reported-still r)))
       | no n ↦ rw (report-keeps d axis r n) h
     ]

@@ -36,7 +36,8 @@ unfolding fold mayMoveTo
 may-inside t [] h = refl
 may-inside t (a ∷ xs) h =
     let may = and-left (mayMoveTo t a) (all (mayMoveTo t) xs) h in
-    and-both (between a (target t a)) (inside t xs) (and-right (a .reference) (between a (target t a)) (and-right (exists t) (a .reference && between a (target t a)) may))
+    and-both (between a (target t a)) (inside t xs)
+    (and-right (a .reference) (between a (target t a)) (and-right (exists t) (a .reference && between a (target t a)) may))
     (may-inside t xs (and-right (mayMoveTo t a) (all (mayMoveTo t) xs) h))
 
 is-false : (b : Bool) → (b ≡ true → ⊥) → b ≡ false
@@ -65,10 +66,12 @@ enough-access : (d : Device) → good d ≡ true → ltb (place (d .access .0)) 
 unfolding good deviceSettings
 enough-access d g =
     some-access (d .access .0)
-    (above-least (pos 1) (pos 2) (d .access .0) (nth (inRange d) deviceSettings CommAddress 3 (omega arith) (and-left (all (inRange d) deviceSettings) (all goodAxis (axesOf d 0) && not (d .parked && any moving (axesOf d 0))) g)))
+    (above-least (pos 1) (pos 2) (d .access .0) (nth (inRange d) deviceSettings CommAddress 3 (omega arith)
+    (and-left (all (inRange d) deviceSettings) (all goodAxis (axesOf d 0) && not (d .parked && any moving (axesOf d 0))) g)))
 
 -- the earlier checks that a move can meet are 12 BADAXIS and 15 PARKED
-pub outside-11 : (d : Device) (k : ℕ) (t : Target) → good d ≡ true → badAxis d k ≡ false → d .parked ≡ false → inside t (axesOf d k) ≡ false → obey d k (MoveTo t) .number ≡ 11
+pub outside-11 : (d : Device) (k : ℕ) (t : Target) → good d ≡ true → badAxis d k ≡ false → d .parked ≡ false
+    → inside t (axesOf d k) ≡ false → obey d k (MoveTo t) .number ≡ 11
 unfolding obey refusal firstOf deviceOnly noAccess parked statusBusy badData
 outside-11 d k t g a p out =
     simp (a, enough-access d g, p, some-may-not d k t out, and-false)

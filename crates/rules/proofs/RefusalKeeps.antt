@@ -26,6 +26,7 @@ pub report-keeps : (d : Device) (axis : Number) (r : Report) → (report d axis 
 unfolding report
 report-keeps d axis r h = simp (ne-eqb (reportRefusal d (place (axis .0)) r) 0 h)
 
-pub report-next : (d : Device) (axis : Number) (r : Report) → report d axis r .number ≡ 0 → report d axis r .next ≡ onAxes (reported r) (place (axis .0)) d
+pub report-next : (d : Device) (axis : Number) (r : Report) → report d axis r .number ≡ 0
+    → report d axis r .next ≡ onAxes (reported r) (place (axis .0)) d
 unfolding report
 report-next d axis r h = simp (eq-eqb (reportRefusal d (place (axis .0)) r) 0 h)

@@ -30,7 +30,8 @@ pub target-exact : (d : Device) (k : ℕ) (t : Target) → obey d k (MoveTo t) .
 unfolding obey next onAxes axesOf
 target-exact d k t e =
     accepted-next d k (MoveTo t) e
-    ∙ ap (λ (l : List Axis). withAxes l d) (change-agree (mayMoveTo t) (moved t) (sent t) (goes t) (k - 1) (many d k) (d .axes) (each-permits d k (MoveTo t) e))
+    ∙ ap (λ (l : List Axis). withAxes l d) (change-agree (mayMoveTo t) (moved t) (sent t) (goes t) (k - 1) (many d k) (d .axes)
+    (each-permits d k (MoveTo t) e))
 
 -- of `move abs N` the target is N itself
 pub abs-exact : (p : Position) (a : Axis) → sent (Abs p) a ≡ withMotion (To p) a

@@ -5,7 +5,7 @@ use mathlib.Core.List.{[], _∷_}
 use Prim.Native.Nat.{ℕ}
 use lib.Dec.{eqb, ltb}
 use Rattle.laws.specs.Lists.{all, any}
-use Rattle.laws.specs.Refusals.{_when_, firstOf}
+use Rattle.laws.specs.Refusals.{_when_, firstOf, BADDATA, BADAXIS, DEVICEONLY, NOACCESS, PARKED, STATUSBUSY}
 use Rattle.units.specs.Units.{place}
 use Rattle.axis.specs.Record.{moving}
 use Rattle.axis.specs.Commands.{demands, permits}
@@ -40,10 +40,10 @@ badData d k c = not (all (permits c) (axesOf d k))
 unfoldable pub refusal : Device → ℕ → Command → ℕ
 refusal d k c =
     firstOf
-    (12 when badAxis d k
-    ∷ 13 when deviceOnly k c
-    ∷ 14 when noAccess d c
-    ∷ 15 when parked d c
-    ∷ 16 when statusBusy d k c
-    ∷ 11 when badData d k c
+    (BADAXIS when badAxis d k
+    ∷ DEVICEONLY when deviceOnly k c
+    ∷ NOACCESS when noAccess d c
+    ∷ PARKED when parked d c
+    ∷ STATUSBUSY when statusBusy d k c
+    ∷ BADDATA when badData d k c
     ∷ [])

@@ -5,7 +5,7 @@ use mathlib.Core.List.{[], _∷_}
 use Prim.Native.Nat.{ℕ}
 use lib.Dec.{eqb, leb}
 use Rattle.laws.specs.Lists.{all}
-use Rattle.laws.specs.Refusals.{_when_, firstOf}
+use Rattle.laws.specs.Refusals.{_when_, firstOf, BADSTATE, BADREPORT}
 use Rattle.units.specs.Units.{place}
 use Rattle.axis.specs.Reports.{takes, reported}
 use Rattle.rules.specs.Types.{Number, Report, Device, Outcome}
@@ -20,7 +20,7 @@ unfoldable pub badReport : Device → ℕ → Report → Bool
 badReport d k r = not (isAxis d k && all (takes r) (axesOf d k))
 
 unfoldable pub reportRefusal : Device → ℕ → Report → ℕ
-reportRefusal d k r = firstOf (21 when not (good d) ∷ 22 when badReport d k r ∷ [])
+reportRefusal d k r = firstOf (BADSTATE when not (good d) ∷ BADREPORT when badReport d k r ∷ [])
 
 unfoldable pub report : Device → Number → Report → Outcome
 report d axis r =

@@ -9,6 +9,7 @@ use command::Setting;
 use device::Device;
 use device::Outcome;
 use device::walks::Change;
+use laws::ACCEPTED;
 use units::Number;
 
 fn put_setting(d: Device, s: Setting, n: Number) -> Device
@@ -69,7 +70,7 @@ pub fn obey(d: Device, k: u64, c: Command) -> Outcome
     let n = refusal(d, k, c);
     if n == 0 {
         Outcome {
-            number: 0,
+            number: ACCEPTED,
             next: next(d, k, c),
         }
     } else {

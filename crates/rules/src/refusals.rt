@@ -6,6 +6,13 @@ use axis::commands::Demands;
 use command::Command;
 use device::Device;
 use device::walks::Test;
+use laws::ACCEPTED;
+use laws::BADAXIS;
+use laws::BADDATA;
+use laws::DEVICEONLY;
+use laws::NOACCESS;
+use laws::PARKED;
+use laws::STATUSBUSY;
 
 // 12 BADAXIS: axis above the count.
 fn bad_axis(d: Device, k: u64) -> bool
@@ -66,22 +73,22 @@ pub fn refusal(d: Device, k: u64, c: Command) -> u8
     ensures { λ r. ⌜ r ≡ refusalOf d k c ⌝ }
 {
     if bad_axis(d, k) {
-        return 12;
+        return BADAXIS;
     }
     if device_only(k, c) {
-        return 13;
+        return DEVICEONLY;
     }
     if no_access(d, c) {
-        return 14;
+        return NOACCESS;
     }
     if parked_for(d, c) {
-        return 15;
+        return PARKED;
     }
     if status_busy(d, k, c) {
-        return 16;
+        return STATUSBUSY;
     }
     if bad_data(d, k, c) {
-        return 11;
+        return BADDATA;
     }
-    0
+    ACCEPTED
 }

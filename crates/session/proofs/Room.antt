@@ -24,8 +24,8 @@ use Rattle.carriage.specs.Step.{Stepped, silent, written, replyOf, rejected, ac
 use Rattle.carriage.specs.Report as Report
 use Rattle.carriage.proofs.Demands.{every-answer}
 use Rattle.carriage.proofs.Room.{reply-at-most-96, silence-small}
-use Rattle.input.specs.declared.reportline.ReportRead.{ReportRead}
-use Rattle.input.specs.declared.reportline.ReportRead.the-variants.{Report, Misspelt}
+use Rattle.input.specs.declared.reports.ReportRead.{ReportRead}
+use Rattle.input.specs.declared.reports.ReportRead.the-variants.{Report, Misspelt}
 use Rattle.input.specs.ReportLines.{readReport}
 use Rattle.input.specs.Parts.{parts}
 use Rattle.input.specs.Prints.{isReport, told, answered}
@@ -66,8 +66,10 @@ line-short d p = go (eqb (s .answer .length) 0) refl
     s : Stepped
     s = step d p (replicate 96 0)
 
-    go : (t : Bool) → eqb (s .answer .length) 0 ≡ t → length (cond t (told (text "silent ") (s .answer .number)) (take (s .answer .length) (s .buffer))) ≤ 96
-    go true e = told-short (text "silent ") (s .answer .number) (omega arith) (silent-small d p (replicate 96 0) (eqb-true (s .answer .length) 0 e))
+    go : (t : Bool) → eqb (s .answer .length) 0 ≡ t
+        → length (cond t (told (text "silent ") (s .answer .number)) (take (s .answer .length) (s .buffer))) ≤ 96
+    go true e = told-short (text "silent ") (s .answer .number) (omega arith)
+        (silent-small d p (replicate 96 0) (eqb-true (s .answer .length) 0 e))
     go false e = rw length-take (omega (arith, reply-at-most-96 d p (replicate 96 0)))
 
 -- ---- the parts, one behind the other

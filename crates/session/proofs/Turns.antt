@@ -13,14 +13,14 @@ use Rattle.device.specs.declared.Device.{Device}
 use Rattle.device.specs.declared.Outcome.{Outcome}
 use Rattle.carriage.specs.declared.Answer.{Answer}
 use Rattle.carriage.specs.Step.{Gives, step}
-use Rattle.input.specs.declared.reportline.ReportRead.{ReportRead}
+use Rattle.input.specs.declared.reports.ReportRead.{ReportRead}
 use Rattle.input.specs.ReportLines.{readReport}
 use Rattle.session.specs.declared.Turned.{Turned}
 use Rattle.input.specs.Parts.{parts, firstPart}
 use Rattle.input.specs.Prints.{isReport, told, answered}
 use Rattle.input.proofs.Parted.{part-inside, part-first}
 use Rattle.input.proofs.Prints.{first-bytes}
-use Rattle.session.specs.Bench.{Turn, Took, heard, lineTurn, reportTurn, turn, turns, benchDevice, bench}
+use Rattle.session.specs.Bench.{Turn, Took, reportOutcome, lineTurn, reportTurn, turn, turns, benchDevice, bench}
 
 -- ---- a line, a report
 module _ (d : Device) (p : List ℕ) {b o : List ℕ} {at r : ℕ} where
@@ -29,7 +29,8 @@ module _ (d : Device) (p : List ℕ) {b o : List ℕ} {at r : ℕ} where
   unfolding lineTurn
   took-line g w = rw (← g .result, ← g .left) (record { prints = w; next = refl })
 
-  pub took-report : {q : ReportRead} {x : Outcome} → q ≡ readReport p → x ≡ heard d q → Wrote b at (told (text "report ") (x .number)) o r
+  pub took-report : {q : ReportRead} {x : Outcome} → q ≡ readReport p → x ≡ reportOutcome d q
+      → Wrote b at (told (text "report ") (x .number)) o r
       → Took (reportTurn d (readReport p)) b at (record { place = r; next = x .next }) o
   unfolding reportTurn
   took-report q e w = rw (← q, ← e) (record { prints = w; next = refl })
@@ -55,7 +56,8 @@ pub running-first : (first : Device) (s b : List ℕ) → Running first s b firs
 running-first first s b = record { printed = []; wrote = wrote-none b 0; whole = refl; inside = omega arith }
 
 module _ {first : Device} {s b : List ℕ} {d : Device} {o : List ℕ} {place at : ℕ} (h : Running first s b d o place at) where
-  pub running-more : {e : ℕ} {r : Turned} {c : List ℕ} → at < length s → e ≡ at + firstPart (drop at s) → Took (turn d (take (e - at) (drop at s))) o place r c
+  pub running-more : {e : ℕ} {r : Turned} {c : List ℕ} → at < length s → e ≡ at + firstPart (drop at s)
+      → Took (turn d (take (e - at) (drop at s))) o place r c
       → Running first s b (r .next) c (r .place) e
   unfolding turns
   running-more {e} {r} l q t =
@@ -71,6 +73,7 @@ module _ {first : Device} {s b : List ℕ} {d : Device} {o : List ℕ} {place at
   running-end l = rw (← h .whole, drop-of-length-le s l, append-nil) (h .wrote)
 
 -- ---- the whole run
-pub ran : (s b : List ℕ) {n : ℕ} {d : Device} {c : List ℕ} {r : ℕ} → n ≡ min 4096 (length s) → d ≡ benchDevice → Wrote b 0 (turns d (parts (take n s))) c r → Wrote b 0 (bench s) c r
+pub ran : (s b : List ℕ) {n : ℕ} {d : Device} {c : List ℕ} {r : ℕ} → n ≡ min 4096 (length s) → d ≡ benchDevice
+    → Wrote b 0 (turns d (parts (take n s))) c r → Wrote b 0 (bench s) c r
 unfolding bench
 ran s b {n} e q w = rw (← first-bytes n 4096 s e, ← q) w

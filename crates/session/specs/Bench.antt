@@ -7,15 +7,17 @@ use Prim.Native.Nat.{ℕ}
 use lib.IntN.{pos}
 use lib.ListN.{take, replicate}
 use Rattle.laws.specs.Text.{text}
+use Rattle.laws.specs.Refusals.{BADREPORT}
 use Rattle.units.specs.Units.{number}
 use Rattle.buffer.specs.Wrote.{Wrote}
 use Rattle.device.specs.declared.Device.{Device}
 use Rattle.device.specs.declared.Outcome.{Outcome}
 use Rattle.device.specs.Record.{fresh}
+use Rattle.reply.specs.Reply.{longestReply}
 use Rattle.carriage.specs.Step.{step}
 use Rattle.carriage.specs.Report.{report}
-use Rattle.input.specs.declared.reportline.ReportRead.{ReportRead}
-use Rattle.input.specs.declared.reportline.ReportRead.the-variants.{Report, Misspelt}
+use Rattle.input.specs.declared.reports.ReportRead.{ReportRead}
+use Rattle.input.specs.declared.reports.ReportRead.the-variants.{Report, Misspelt}
 use Rattle.input.specs.ReportLines.{readReport}
 use Rattle.input.specs.Parts.{parts}
 use Rattle.input.specs.Prints.{isReport, told, answered}
@@ -27,18 +29,18 @@ pub record Turn : Type 0 where
   pub next : Device
 
 -- "22 if misspelt, over 80 bytes or without a footer"
-abbrev pub heard : Device → ReportRead → Outcome
-heard d Misspelt = record { number = 22; next = d }
-heard d (Report axis kind last) = report d axis kind last
+abbrev pub reportOutcome : Device → ReportRead → Outcome
+reportOutcome d Misspelt = record { number = BADREPORT; next = d }
+reportOutcome d (Report axis kind last) = report d axis kind last
 
 -- "it prints `report N`"
 unfoldable pub reportTurn : Device → ReportRead → Turn
-reportTurn d r = record { prints = told (text "report ") (heard d r .number); next = heard d r .next }
+reportTurn d r = record { prints = told (text "report ") (reportOutcome d r .number); next = reportOutcome d r .next }
 
 -- "prints the reply, or `silent N`"; the buffer that is lent has 96 bytes
 unfoldable pub lineTurn : Device → List ℕ → Turn
 lineTurn d p =
-    let s = step d p (replicate 96 0) in
+    let s = step d p (replicate longestReply 0) in
     record { prints = answered (s .answer .number) (s .answer .length) (s .buffer); next = s .answer .next }
 
 unfoldable pub turn : Device → List ℕ → Turn
@@ -53,8 +55,11 @@ unfoldable pub benchDevice : Device
 benchDevice = fresh (number (pos 1)) 2 (number (pos 100))
 
 -- "reads at most 4,096 bytes of standard input ... later input is not read"
+abbrev pub longestInput : ℕ
+longestInput = 4096
+
 unfoldable pub bench : List ℕ → List ℕ
-bench input = turns benchDevice (parts (take 4096 input))
+bench input = turns benchDevice (parts (take longestInput input))
 
 -- c is b with what the turn t prints from place `at` on, and r the place behind it and the next record
 pub record Took (t : Turn) (b : List ℕ) (at : ℕ) (r : Turned) (c : List ℕ) : Type 0 where

@@ -4,15 +4,21 @@ ghost use mathlib.Core.Path.{_≡_};
 ghost use Rattle.buffer.specs.Wrote.{Wrote};
 ghost use Rattle.input.specs.Parts.{parts as partsOf};
 ghost use Rattle.input.specs.ReportLines.{readReport};
-ghost use Rattle.session.specs.Bench.{Took, heard as heardOf, reportTurn, lineTurn, turn as turnOf, turns as turnsOf, bench, benchDevice as benchDeviceOf};
+ghost use Rattle.session.specs.Bench.{Took, reportOutcome, reportTurn, lineTurn, turn as turnOf, turns as turnsOf, bench, benchDevice as benchDeviceOf};
 use device::Device;
 use device::Outcome;
 use input::parts::is_report;
 use input::parts::part_end;
 use input::parts::put_answer;
 use input::parts::put_told;
-use input::reportline::ReportRead;
+use input::reports::ReportRead;
+use laws::BADREPORT;
+use reply::LONGEST_REPLY;
 use units::Number;
+use units::lesser;
+
+// "reads at most 4,096 bytes of standard input"
+pub const LONGEST_INPUT: usize = 4096;
 
 // The place behind what a turn printed, and the next record.
 pub struct Turned {
@@ -21,12 +27,12 @@ pub struct Turned {
 }
 
 // What a report makes of a record; 22 where it is misspelt.
-fn heard(d: Device, r: ReportRead) -> Outcome
-    ensures { λ o. ⌜ o ≡ heardOf d r ⌝ }
+fn report_outcome(d: Device, r: ReportRead) -> Outcome
+    ensures { λ o. ⌜ o ≡ reportOutcome d r ⌝ }
 {
     match r {
         ReportRead::Misspelt => Outcome {
-            number: 22,
+            number: BADREPORT,
             next: d,
         },
         ReportRead::Report(axis, kind, last) => carriage::report(d, axis, kind, last),
@@ -36,7 +42,7 @@ fn heard(d: Device, r: ReportRead) -> Outcome
 fn report_turn(d: Device, part: &[u8], out: &mut [u8], at: usize) -> Turned
     ensures { λ t. ⌜ Took (reportTurn d (readReport (now (part .entry)))) (now (out .entry)) at t (now (out .exit)) ⌝ }
 {
-    let o = heard(d, input::reportline::read_report(part));
+    let o = report_outcome(d, input::reports::read_report(part));
     let next = o.next;
     Turned {
         place: put_told(out, at, b"report ", o.number),
@@ -47,7 +53,7 @@ fn report_turn(d: Device, part: &[u8], out: &mut [u8], at: usize) -> Turned
 fn line_turn(d: Device, part: &[u8], out: &mut [u8], at: usize) -> Turned
     ensures { λ t. ⌜ Took (lineTurn d (now (part .entry))) (now (out .entry)) at t (now (out .exit)) ⌝ }
 {
-    let mut reply = [0; 96];
+    let mut reply = [0; LONGEST_REPLY];
     let a = carriage::step(d, part, &mut reply);
     let next = a.next;
     Turned {
@@ -95,6 +101,6 @@ fn run_parts(first: Device, input: &[u8], out: &mut [u8]) -> usize
 pub fn run(input: &[u8], out: &mut [u8]) -> usize
     ensures { λ r. ⌜ Wrote (now (out .entry)) 0 (bench (now (input .entry))) (now (out .exit)) r ⌝ }
 {
-    let n = reply::data::lesser(4096, input.len());
+    let n = lesser(LONGEST_INPUT, input.len());
     run_parts(bench_device(), &input[..n], out)
 }

@@ -16,7 +16,8 @@ use Rattle.settings.specs.Settings.{range, inRange, put}
 
 -- all settings pass a test where each does, and each where all do
 module _ (f : AxisSetting → Bool) where
-  every : f Pos ≡ true → f LimitMin ≡ true → f LimitMax ≡ true → f MaxSpeed ≡ true → f Accel ≡ true → f DriverCurrentMax ≡ true → f DriverCurrentRun ≡ true → f DriverCurrentHold ≡ true → f DriverDir ≡ true → f EncoderIndexCount ≡ true → all f axisSettings ≡ true
+  every : f Pos ≡ true → f LimitMin ≡ true → f LimitMax ≡ true → f MaxSpeed ≡ true → f Accel ≡ true → f DriverCurrentMax ≡ true
+      → f DriverCurrentRun ≡ true → f DriverCurrentHold ≡ true → f DriverDir ≡ true → f EncoderIndexCount ≡ true → all f axisSettings ≡ true
   unfolding fold axisSettings
   every a b c d e g h i j k = simp (a, b, c, d, e, g, h, i, j, k)
 
@@ -40,25 +41,38 @@ module _ (n : Number) (s : Settings) (good : all (inRange s) axisSettings ≡ tr
 
   pub put-good : (x : AxisSetting) → within (range x s) (n .0) ≡ true → all (inRange (put x n s)) axisSettings ≡ true
   put-good Pos h =
-      every (inRange (put Pos n s)) h (old LimitMin) (old LimitMax) (old MaxSpeed) (old Accel) (old DriverCurrentMax) (old DriverCurrentRun) (old DriverCurrentHold) (old DriverDir) (old EncoderIndexCount)
+      every (inRange (put Pos n s)) h (old LimitMin) (old LimitMax) (old MaxSpeed) (old Accel) (old DriverCurrentMax)
+      (old DriverCurrentRun) (old DriverCurrentHold) (old DriverDir) (old EncoderIndexCount)
   put-good LimitMin h =
       every (inRange (put LimitMin n s)) (old Pos) h
-      (and-both (leZ (n .0) (s .limit .max .0)) (leZ (s .limit .max .0) (pos 1000000000)) (below-most (minus 1000000000) (s .limit .max .0) (n .0) h) (below-most (s .limit .min .0) (pos 1000000000) (s .limit .max .0) (old LimitMax)))
-      (old MaxSpeed) (old Accel) (old DriverCurrentMax) (old DriverCurrentRun) (old DriverCurrentHold) (old DriverDir) (old EncoderIndexCount)
+      (and-both (leZ (n .0) (s .limit .max .0)) (leZ (s .limit .max .0) (pos 1000000000))
+      (below-most (minus 1000000000) (s .limit .max .0) (n .0) h)
+      (below-most (s .limit .min .0) (pos 1000000000) (s .limit .max .0) (old LimitMax)))
+      (old MaxSpeed) (old Accel) (old DriverCurrentMax) (old DriverCurrentRun) (old DriverCurrentHold) (old DriverDir)
+      (old EncoderIndexCount)
   put-good LimitMax h =
       every (inRange (put LimitMax n s)) (old Pos)
-      (and-both (leZ (minus 1000000000) (s .limit .min .0)) (leZ (s .limit .min .0) (n .0)) (above-least (minus 1000000000) (s .limit .max .0) (s .limit .min .0) (old LimitMin)) (above-least (s .limit .min .0) (pos 1000000000) (n .0) h))
-      h (old MaxSpeed) (old Accel) (old DriverCurrentMax) (old DriverCurrentRun) (old DriverCurrentHold) (old DriverDir) (old EncoderIndexCount)
+      (and-both (leZ (minus 1000000000) (s .limit .min .0)) (leZ (s .limit .min .0) (n .0))
+      (above-least (minus 1000000000) (s .limit .max .0) (s .limit .min .0) (old LimitMin))
+      (above-least (s .limit .min .0) (pos 1000000000) (n .0) h))
+      h (old MaxSpeed) (old Accel) (old DriverCurrentMax) (old DriverCurrentRun) (old DriverCurrentHold) (old DriverDir)
+      (old EncoderIndexCount)
   put-good MaxSpeed h =
-      every (inRange (put MaxSpeed n s)) (old Pos) (old LimitMin) (old LimitMax) h (old Accel) (old DriverCurrentMax) (old DriverCurrentRun) (old DriverCurrentHold) (old DriverDir) (old EncoderIndexCount)
+      every (inRange (put MaxSpeed n s)) (old Pos) (old LimitMin) (old LimitMax) h (old Accel) (old DriverCurrentMax)
+      (old DriverCurrentRun) (old DriverCurrentHold) (old DriverDir) (old EncoderIndexCount)
   put-good Accel h =
-      every (inRange (put Accel n s)) (old Pos) (old LimitMin) (old LimitMax) (old MaxSpeed) h (old DriverCurrentMax) (old DriverCurrentRun) (old DriverCurrentHold) (old DriverDir) (old EncoderIndexCount)
+      every (inRange (put Accel n s)) (old Pos) (old LimitMin) (old LimitMax) (old MaxSpeed) h (old DriverCurrentMax)
+      (old DriverCurrentRun) (old DriverCurrentHold) (old DriverDir) (old EncoderIndexCount)
   put-good DriverCurrentMax h = good
   put-good DriverCurrentRun h =
-      every (inRange (put DriverCurrentRun n s)) (old Pos) (old LimitMin) (old LimitMax) (old MaxSpeed) (old Accel) (old DriverCurrentMax) h (old DriverCurrentHold) (old DriverDir) (old EncoderIndexCount)
+      every (inRange (put DriverCurrentRun n s)) (old Pos) (old LimitMin) (old LimitMax) (old MaxSpeed) (old Accel)
+      (old DriverCurrentMax) h (old DriverCurrentHold) (old DriverDir) (old EncoderIndexCount)
   put-good DriverCurrentHold h =
-      every (inRange (put DriverCurrentHold n s)) (old Pos) (old LimitMin) (old LimitMax) (old MaxSpeed) (old Accel) (old DriverCurrentMax) (old DriverCurrentRun) h (old DriverDir) (old EncoderIndexCount)
+      every (inRange (put DriverCurrentHold n s)) (old Pos) (old LimitMin) (old LimitMax) (old MaxSpeed) (old Accel) (old DriverCurrentMax)
+      (old DriverCurrentRun) h (old DriverDir) (old EncoderIndexCount)
   put-good DriverDir h =
-      every (inRange (put DriverDir n s)) (old Pos) (old LimitMin) (old LimitMax) (old MaxSpeed) (old Accel) (old DriverCurrentMax) (old DriverCurrentRun) (old DriverCurrentHold) h (old EncoderIndexCount)
+      every (inRange (put DriverDir n s)) (old Pos) (old LimitMin) (old LimitMax) (old MaxSpeed) (old Accel) (old DriverCurrentMax)
+      (old DriverCurrentRun) (old DriverCurrentHold) h (old EncoderIndexCount)
   put-good EncoderIndexCount h =
-      every (inRange (put EncoderIndexCount n s)) (old Pos) (old LimitMin) (old LimitMax) (old MaxSpeed) (old Accel) (old DriverCurrentMax) (old DriverCurrentRun) (old DriverCurrentHold) (old DriverDir) h
+      every (inRange (put EncoderIndexCount n s)) (old Pos) (old LimitMin) (old LimitMax) (old MaxSpeed) (old Accel) (old DriverCurrentMax)
+      (old DriverCurrentRun) (old DriverCurrentHold) (old DriverDir) h

@@ -51,8 +51,10 @@ put LimitMax n s = settings (s .pos) (limit (s .limit .min) (position (n .0))) (
 put MaxSpeed n s = settings (s .pos) (s .limit) (speed (n .0)) (s .accel) (s .current) (s .dir) (s .index)
 put Accel n s = settings (s .pos) (s .limit) (s .maxspeed) n (s .current) (s .dir) (s .index)
 put DriverCurrentMax n s = s
-put DriverCurrentRun n s = settings (s .pos) (s .limit) (s .maxspeed) (s .accel) (current (s .current .max) n (s .current .hold)) (s .dir) (s .index)
-put DriverCurrentHold n s = settings (s .pos) (s .limit) (s .maxspeed) (s .accel) (current (s .current .max) (s .current .run) n) (s .dir) (s .index)
+put DriverCurrentRun n s = settings (s .pos) (s .limit) (s .maxspeed) (s .accel) (current (s .current .max) n (s .current .hold)) (s .dir)
+    (s .index)
+put DriverCurrentHold n s = settings (s .pos) (s .limit) (s .maxspeed) (s .accel) (current (s .current .max) (s .current .run) n) (s .dir)
+    (s .index)
 put DriverDir n s = settings (s .pos) (s .limit) (s .maxspeed) (s .accel) (s .current) n (s .index)
 put EncoderIndexCount n s = settings (s .pos) (s .limit) (s .maxspeed) (s .accel) (s .current) (s .dir) n
 

@@ -1,7 +1,7 @@
 // The speed program over the proved library: steps one record through one line many times. tools/speed runs it beside the plain
 // one, whose file tools/plain/speed.c says what both read and write.
 use device::Device;
-use input::reportline::ReportRead;
+use input::reports::ReportRead;
 use libc::STDOUT_FILENO;
 use units::Number;
 
@@ -72,7 +72,7 @@ fn main() {
     if got < 15 {
         return say(0, 0);
     }
-    match input::reportline::read_report(&input[..15]) {
+    match input::reports::read_report(&input[..15]) {
         ReportRead::Misspelt => say(0, 0),
         ReportRead::Report(repeat, axes, home) => run(repeat, axes, home, &input[15..got]),
     }

@@ -43,11 +43,13 @@ module _ (axes : List Axis) (from many : ℕ) (four : length axes ≡ 4) (room :
     pub list-none : many ≡ 0 → values shown ≡ []
     list-none h = values-none shown (many-shown ∙ h)
 
-    pub list-some : (d : Axis) (e : Number) (x : Number) → 0 < many → x ≡ valueIn v (getD axes from d) → values shown ≡ decimal (x .0) ++ trail (decimals (drop 1 shown))
+    pub list-some : (d : Axis) (e : Number) (x : Number) → 0 < many → x ≡ valueIn v (getD axes from d) → values shown ≡ decimal (x .0)
+        ++ trail (decimals (drop 1 shown))
     list-some d e x h q = values-some shown e (omega (arith, many-shown)) ∙ rw (value-at 0 d e h, add-zero from, ← q)
 
     module _ (i : ℕ) where
-      pub list-more : (d : Axis) (e : Number) (x : Number) → i < many → x ≡ valueIn v (getD axes (from + i) d) → decimals (drop i shown) ≡ decimal (x .0) ∷ decimals (drop (i + 1) shown)
+      pub list-more : (d : Axis) (e : Number) (x : Number) → i < many → x ≡ valueIn v (getD axes (from + i) d)
+          → decimals (drop i shown) ≡ decimal (x .0) ∷ decimals (drop (i + 1) shown)
       list-more d e x h q = values-more shown i e (omega (arith, many-shown)) ∙ rw (value-at i d e h, ← q)
 
       pub list-end : many ≤ i → decimals (drop i shown) ≡ []

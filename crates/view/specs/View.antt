@@ -33,7 +33,14 @@ busy d k = any moving (axesOf d k)
 
 -- what stands before the data, of the record d and the axis k that was sent
 unfoldable pub headOf : Device → ℕ → Bool → Head
-headOf d k ok = let s = shownAxis d k in record { address = place (d .comm .address .0); axis = s; ok = ok; busy = busy d s; warnings = warningsOf d s }
+headOf d k ok = let s = shownAxis d k in record {
+  address =
+      place (d .comm .address .0);
+  axis = s;
+  ok = ok;
+  busy = busy d s;
+  warnings = warningsOf d s;
+}
 
 -- what is listed of an axis: a setting, a stored position, or its position
 abbrev pub valueIn : Value → Axis → Number

@@ -90,7 +90,7 @@ pub fn put_values(buf: &mut [u8], at: usize, d: Device, k: u64, v: Value) -> usi
     ensures { λ r. ⌜ Wrote (now (buf .entry)) at (values (valuesOf v d k)) (now (buf .exit)) r ⌝ }
 {
     let axes = d.axes;
-    let p = d.part(k);
+    let p = d.stretch(k);
     put_list(buf, at, axes, v, p.from, p.many)
 }
 

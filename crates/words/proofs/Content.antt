@@ -32,7 +32,8 @@ word-cut t b (Word.more {c} {w} h r) = cut-inside c (w ++ t) (no-space h) (word-
 pub content-cut : {s : List ℕ} {ws : List (List ℕ)} → Content s ws → cut s ≡ ws
 content-cut (blank {p} h) = (rw append-nil at (spaces-cut [] h)) ∙ cut-none
 content-cut (last {p} {w} h r) = spaces-cut w h ∙ (rw (append-nil, cut-none) at (word-cut [] refl r))
-content-cut (next {p} {w} {s} {ws} h r k) = spaces-cut (w ++ 32 ∷ s) h ∙ word-cut (32 ∷ s) (other-not 32 refl) r ∙ ap (λ (l : List (List ℕ)). w ∷ l) (content-cut k)
+content-cut (next {p} {w} {s} {ws} h r k) = spaces-cut (w ++ 32 ∷ s) h ∙ word-cut (32 ∷ s) (other-not 32 refl) r
+    ∙ ap (λ (l : List (List ℕ)). w ∷ l) (content-cut k)
 
 -- ---- what is cut is composed so, where no byte is forbidden
 -- spaces and bytes of words alone

@@ -1,4 +1,4 @@
--- How a content is composed of words: every rule composes a text from parts. Nothing here says how a content is cut.
+-- How a content is composed of words: every rule composes a text from smaller ones. Nothing here says how a content is cut.
 -- Read `rule : A → B → Content s ws` as: from an A and a B, the bytes s are a content of the words ws.
 use mathlib.Core.Path.{_≡_}
 use mathlib.Core.List.{List, [], _∷_, _++_}

@@ -52,7 +52,8 @@ module _ (t : ℕ) where
 
   returns : put-number-lts.Need-returns (called t) (put-number-at t) put-number.Post
   unfolding lastDigit
-  returns c = rw (digits-one (c .before .before .before .before .before .before .args .n) (search needs)) (c .before .before .put-byte .ensures)
+  returns c = rw (digits-one (c .before .before .before .before .before .before .args .n) (search needs))
+      (c .before .before .put-byte .ensures)
 
   same-length-2 : put-number-lts.Need-same-length-2 (called t) (put-number-at t) put-number.Post
   same-length-2 c = c .before .before .put-byte2 .kept .0 ∙ c .before .before .before .before .before .before .put-number .kept .0
@@ -61,7 +62,8 @@ module _ (t : ℕ) where
   unfolding lastDigit
   returns-2 c =
       let p = c .before .before .before .before .before .before in
-      rw (digits-more (p .before .before .before .before .args .n) (search needs) (search needs)) (p .put-number .ensures ▸ c .before .before .put-byte2 .ensures)
+      rw (digits-more (p .before .before .before .before .args .n) (search needs) (search needs))
+      (p .put-number .ensures ▸ c .before .before .put-byte2 .ensures)
 
 pub +put-number-spec : {M : Type 1} → statement M
 +put-number-spec =

@@ -5,15 +5,6 @@ use Rattle.buffer.proofs.Wrote.{wrote-byte, wrote-past}
 use Rattle.buffer.proofs.put_byte.Statement.{statement}
 use Rattle.buffer.proofs.put_byte.Tie as tie
 
-slice-write-buf : tie.Need-slice-write-buf
-slice-write-buf c = search needs
-
-add-result : tie.Need-add-result
-add-result c = search needs
-
-same-length : tie.Need-same-length
-same-length c = search needs
-
 returns : tie.Need-returns
 returns c = wrote-byte _ _ _ (c .if1 .taken)
 
@@ -21,4 +12,5 @@ returns-2 : tie.Need-returns-2
 returns-2 c = wrote-past _ _ _ (c .if1 .left)
 
 pub put-byte-spec : {M : Type 1} → statement M
-put-byte-spec = tie.close (tie.spec slice-write-buf add-result same-length returns returns-2)
+put-byte-spec = tie.close
+    (tie.spec (λ c. search needs) (λ c. search needs) (λ c. search needs) returns returns-2)

@@ -6,34 +6,15 @@ use borrow.Author.Needs.{needs}
 use Rattle.buffer.proofs.put_pair.Statement.{statement}
 use Rattle.buffer.proofs.put_pair.Tie as tie
 
-hex-digit-requires : tie.Need-hex-digit-requires
-hex-digit-requires c κs = search needs
-
-put-byte-requires : tie.Need-put-byte-requires
-put-byte-requires c κs = search needs
-
-hex-digit-requires-2 : tie.Need-hex-digit-requires-2
-hex-digit-requires-2 c κs = search needs
-
-put-byte-requires-2 : tie.Need-put-byte-requires-2
-put-byte-requires-2 c κs = search needs
-
-same-length : tie.Need-same-length
-same-length c = search needs
-
 returns : tie.Need-returns
 unfolding hexPair
 returns c =
-    let p = c .before .before .before .before .before .before .before in
-    rw (← p .before .hex-digit .ensures, ← c .before .before .before .hex-digit2 .ensures) (p .put-byte .ensures ▸ c .before .before .put-byte2 .ensures)
+    let put-byte2 = c .before .before in
+    let hex-digit2 = put-byte2 .before in
+    let p = hex-digit2 .before .before .before .before in
+    rw (← p .before .hex-digit .ensures, ← hex-digit2 .hex-digit2 .ensures) (p .put-byte .ensures ▸ put-byte2 .put-byte2 .ensures)
 
 pub put-pair-spec : {M : Type 1} → statement M
 put-pair-spec =
     tie.close
-    (tie.spec
-    hex-digit-requires
-    put-byte-requires
-    hex-digit-requires-2
-    put-byte-requires-2
-    same-length
-    returns)
+    (tie.spec (λ c κs. search needs) (λ c κs. search needs) (λ c κs. search needs) (λ c κs. search needs) (λ c. search needs) returns)

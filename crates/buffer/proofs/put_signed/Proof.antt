@@ -8,49 +8,24 @@ use borrow.Author.Needs.{needs}
 use Rattle.buffer.proofs.put_signed.Statement.{statement}
 use Rattle.buffer.proofs.put_signed.Tie as tie
 
-magnitude-requires : tie.Need-magnitude-requires
-magnitude-requires c κs = search needs
-
-negative-requires : tie.Need-negative-requires
-negative-requires c κs = search needs
-
-put-byte-requires : tie.Need-put-byte-requires
-put-byte-requires c κs = search needs
-
-put-number-requires : tie.Need-put-number-requires
-put-number-requires c κs = search needs
-
-put-number-requires-2 : tie.Need-put-number-requires-2
-put-number-requires-2 c κs = search needs
-
-same-length : tie.Need-same-length
-same-length c = search needs
-
 returns : tie.Need-returns
 unfolding text
 returns c =
-    let p = c .before .before .before .before .before .before in
+    let put-number = c .before .before in
+    let p = put-number .before .before .before .before in
     let s = p .before .before .before in
-    rw (decimal-below _ (sym (s .negative .ensures) ∙ p .before .before .if1 .taken), ← s .before .magnitude .ensures) (p .put-byte .ensures ▸ c .before .before .put-number .ensures)
-
-same-length-2 : tie.Need-same-length-2
-same-length-2 c = search needs
+    rw (decimal-below _ (sym (s .negative .ensures) ∙ p .before .before .if1 .taken), ← s .before .magnitude .ensures)
+    (p .put-byte .ensures ▸ put-number .put-number .ensures)
 
 returns-2 : tie.Need-returns-2
 returns-2 c =
-    let s = c .before .before .before .before .before in
-    rw (decimal-above _ (sym (s .negative .ensures) ∙ c .before .before .before .before .if1 .left), ← s .before .magnitude .ensures) (c .before .before .put-number2 .ensures)
+    let put-number2 = c .before .before in
+    let if1 = put-number2 .before .before in
+    let s = if1 .before in
+    rw (decimal-above _ (sym (s .negative .ensures) ∙ if1 .if1 .left), ← s .before .magnitude .ensures) (put-number2 .put-number2 .ensures)
 
 pub put-signed-spec : {M : Type 1} → statement M
 put-signed-spec =
     tie.close
-    (tie.spec
-    magnitude-requires
-    negative-requires
-    put-byte-requires
-    put-number-requires
-    put-number-requires-2
-    same-length
-    returns
-    same-length-2
-    returns-2)
+    (tie.spec (λ c κs. search needs) (λ c κs. search needs) (λ c κs. search needs) (λ c κs. search needs) (λ c κs. search needs)
+    (λ c. search needs) returns (λ c. search needs) returns-2)

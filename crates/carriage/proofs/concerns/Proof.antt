@@ -5,12 +5,10 @@ use borrow.Author.Needs.{needs}
 use Rattle.carriage.proofs.concerns.Statement.{statement}
 use Rattle.carriage.proofs.concerns.Tie as tie
 
-place-requires : tie.Need-place-requires
-place-requires c κs = search needs
-
 returns : tie.Need-returns
 unfolding concerns
 returns c = simp (c .place .ensures)
 
 pub concerns-spec : {M : Type 1} → statement M
-concerns-spec = tie.close (tie.spec place-requires returns)
+concerns-spec = tie.close
+    (tie.spec (λ c κs. search needs) returns)

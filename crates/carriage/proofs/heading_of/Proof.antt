@@ -5,15 +5,10 @@ use borrow.Author.Needs.{needs}
 use Rattle.carriage.proofs.heading_of.Statement.{statement}
 use Rattle.carriage.proofs.heading_of.Tie as tie
 
-head-requires : tie.Need-head-requires
-head-requires c κs = search needs
-
-place-requires : tie.Need-place-requires
-place-requires c κs = search needs
-
 returns : tie.Need-returns
 unfolding wantsSum
 returns c = simp (c .place .ensures, c .before .head .ensures)
 
 pub heading-of-spec : {M : Type 1} → statement M
-heading-of-spec = tie.close (tie.spec head-requires place-requires returns)
+heading-of-spec = tie.close
+    (tie.spec (λ c κs. search needs) (λ c κs. search needs) returns)

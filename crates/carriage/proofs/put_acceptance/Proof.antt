@@ -10,24 +10,6 @@ use borrow.Author.Needs.{needs}
 use Rattle.carriage.proofs.put_acceptance.Statement.{statement}
 use Rattle.carriage.proofs.put_acceptance.Tie as tie
 
-put-head-requires : tie.Need-put-head-requires
-put-head-requires c κs = search needs
-
-add-past-words : tie.Need-add-past-words
-add-past-words c = search needs
-
-past-words-requires : tie.Need-past-words-requires
-past-words-requires c κs = search needs
-
-put-data-requires : tie.Need-put-data-requires
-put-data-requires c κs = search needs
-
-put-end-requires : tie.Need-put-end-requires
-put-end-requires c κs = search needs
-
-same-length : tie.Need-same-length
-same-length c = search needs
-
 returns : tie.Need-returns
 returns c =
     let end = c .before .before in
@@ -37,17 +19,13 @@ returns c =
     let a = s .args in
     let ws = cut (a .s .now) in
     let echo = echo-same (a .d) (a .k) (drop (a .skip) ws) _ (a .c) (shown .before .past-words .ensures .1 ∙ behind-two ws (a .skip)) in
-    replied (a .h .head) (s .pre .1) (a .h .sum) _ (data-fits (a .d) (a .k) (a .c) (a .s .now) (a .skip) (s .pre .2) (good-count (a .d) (s .pre .2)) (s .pre .3) (s .pre .4)) (s .pre .0)
+    replied (a .h .head) (s .pre .1) (a .h .sum) _
+    (data-fits (a .d) (a .k) (a .c) (a .s .now) (a .skip) (s .pre .2) (good-count (a .d) (s .pre .2)) (s .pre .3) (s .pre .4))
+    (s .pre .0)
     (head .put-head .ensures) (rw echo at (shown .put-data .ensures)) (end .put-end .ensures)
 
 pub put-acceptance-spec : {M : Type 1} → statement M
 put-acceptance-spec =
     tie.close
-    (tie.spec
-    put-head-requires
-    add-past-words
-    past-words-requires
-    put-data-requires
-    put-end-requires
-    same-length
-    returns)
+    (tie.spec (λ c κs. search needs) (λ c. search needs) (λ c κs. search needs) (λ c κs. search needs) (λ c κs. search needs)
+    (λ c. search needs) returns)

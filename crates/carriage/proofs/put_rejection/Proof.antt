@@ -7,18 +7,6 @@ use borrow.Author.Needs.{needs}
 use Rattle.carriage.proofs.put_rejection.Statement.{statement}
 use Rattle.carriage.proofs.put_rejection.Tie as tie
 
-put-head-requires : tie.Need-put-head-requires
-put-head-requires c κs = search needs
-
-put-refusal-requires : tie.Need-put-refusal-requires
-put-refusal-requires c κs = search needs
-
-put-end-requires : tie.Need-put-end-requires
-put-end-requires c κs = search needs
-
-same-length : tie.Need-same-length
-same-length c = search needs
-
 returns : tie.Need-returns
 returns c =
     let end = c .before .before in
@@ -26,9 +14,10 @@ returns c =
     let head = name .before .before .before .before in
     let s = head .before .before .before in
     let a = s .args in
-    replied (a .h .head) (s .pre .1) (a .h .sum) _ (omega (arith, refusal-length (a .number))) (s .pre .0) (head .put-head .ensures) (name .put-refusal .ensures) (end .put-end .ensures)
+    replied (a .h .head) (s .pre .1) (a .h .sum) _ (omega (arith, refusal-length (a .number))) (s .pre .0) (head .put-head .ensures)
+    (name .put-refusal .ensures) (end .put-end .ensures)
 
 pub put-rejection-spec : {M : Type 1} → statement M
 put-rejection-spec =
     tie.close
-    (tie.spec put-head-requires put-refusal-requires put-end-requires same-length returns)
+    (tie.spec (λ c κs. search needs) (λ c κs. search needs) (λ c κs. search needs) (λ c. search needs) returns)

@@ -5,15 +5,6 @@ use borrow.Author.Needs.{needs}
 use Rattle.carriage.proofs.rule_words.Statement.{statement}
 use Rattle.carriage.proofs.rule_words.Tie as tie
 
-enum-known-w : tie.Need-enum-known-w
-enum-known-w c = search needs
-
-enum-known-w-2 : tie.Need-enum-known-w-2
-enum-known-w-2 c = search needs
-
-refusal-requires : tie.Need-refusal-requires
-refusal-requires c κs = search needs
-
 returns : tie.Need-returns
 returns c = simp (c .before .w .given .1)
 
@@ -25,4 +16,5 @@ returns-3 c = ruled-rejected _ _ _ _ (c .before .before .before .w2 .given .1) (
 
 pub rule-words-spec : {M : Type 1} → statement M
 rule-words-spec =
-    tie.close (tie.spec enum-known-w enum-known-w-2 refusal-requires returns returns-2 returns-3)
+    tie.close
+    (tie.spec (λ c. search needs) (λ c. search needs) (λ c κs. search needs) returns returns-2 returns-3)

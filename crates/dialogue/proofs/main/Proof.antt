@@ -12,23 +12,8 @@ Inv-loop d₀ k₀ d k = k ≤ 22
 abbrev μ-loop : tie.MeasureT-loop
 μ-loop d₀ k₀ d k = 22 - k
 
-new-requires : tie.Need-new-requires Inv-loop μ-loop
-new-requires c κs = search needs
-
 loop-holds : tie.Need-loop-holds Inv-loop μ-loop
 loop-holds c = omega arith
-
-axis-requires : tie.Need-axis-requires Inv-loop μ-loop
-axis-requires c κs = search needs
-
-command-requires : tie.Need-command-requires Inv-loop μ-loop
-command-requires c κs = search needs
-
-ask-requires : tie.Need-ask-requires Inv-loop μ-loop
-ask-requires c κs = search needs
-
-motors-requires : tie.Need-motors-requires Inv-loop μ-loop
-motors-requires c κs = search needs
 
 add-k : tie.Need-add-k Inv-loop μ-loop
 add-k c = omega arith
@@ -45,16 +30,5 @@ returns c = search needs
 pub main-spec : {M : Type 1} → statement M
 main-spec =
     tie.close
-    (tie.spec
-    Inv-loop
-    μ-loop
-    new-requires
-    loop-holds
-    axis-requires
-    command-requires
-    ask-requires
-    motors-requires
-    add-k
-    loop-less
-    loop-again
-    returns)
+    (tie.spec Inv-loop μ-loop (λ c κs. search needs) loop-holds (λ c κs. search needs) (λ c κs. search needs) (λ c κs. search needs)
+    (λ c κs. search needs) add-k loop-less loop-again returns)

@@ -5,9 +5,6 @@ use borrow.Author.Needs.{needs}
 use Rattle.flags.proofs.active.Statement.{statement}
 use Rattle.flags.proofs.active.Tie as tie
 
-add-result : tie.Need-add-result
-add-result c = search needs
-
 returns : tie.Need-returns
 returns c = rw (c .if1 .taken) (active-yes (c .before .args .m))
 
@@ -15,4 +12,5 @@ returns-2 : tie.Need-returns-2
 returns-2 c = rw (c .if1 .left) (active-no (c .before .args .m))
 
 pub active-spec : {M : Type 1} → statement M
-active-spec = tie.close (tie.spec add-result returns returns-2)
+active-spec = tie.close
+    (tie.spec (λ c. search needs) returns returns-2)

@@ -11,4 +11,5 @@ returns-2 : tie.Need-returns-2
 returns-2 c = highest-some _ (c .if1 .left)
 
 pub highest-spec : {M : Type 1} → statement M
-highest-spec = tie.close (tie.spec returns returns-2)
+highest-spec = tie.close
+    (tie.spec returns returns-2)

@@ -8,4 +8,5 @@ returns : tie.Need-returns
 returns c = number-is _
 
 pub number-spec : {M : Type 1} → statement M
-number-spec = tie.close (tie.spec returns)
+number-spec = tie.close
+    (tie.spec returns)

@@ -8,4 +8,5 @@ returns : tie.Need-returns
 returns c = union-is _ _
 
 pub union-spec : {M : Type 1} → statement M
-union-spec = tie.close (tie.spec returns)
+union-spec = tie.close
+    (tie.spec returns)

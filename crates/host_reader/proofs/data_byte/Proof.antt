@@ -10,4 +10,5 @@ unfolding dataByte
 returns c = refl
 
 pub data-byte-spec : {M : Type 1} → statement M
-data-byte-spec = tie.close (tie.spec returns)
+data-byte-spec = tie.close
+    (tie.spec returns)

@@ -1,10 +1,10 @@
-// The parts of a reply's line, each at its place: bytes, marks and the fields before the data.
+// The fields of a reply's line, each at its place: bytes, marks and the fields before the data.
 // The rules are in specs/Reading.antt.
 ghost use mathlib.Core.Path.{_≡_};
 ghost use lib.ListN.{take, drop, getD};
 ghost use Rattle.host_reader.specs.Reading.{stands, twoOf, marked, headIn, rightHead};
 use crate::Head;
-use reply::data::lesser;
+use units::lesser;
 use words::find_word;
 use words::same_bytes;
 
@@ -67,9 +67,9 @@ fn two_of(tens: u64, ones: u64) -> u64
 pub fn read_head(line: &[u8]) -> Head
     ensures { λ r. ⌜ r ≡ headIn (now (line .entry)) ⌝ }
 {
-    let tens = numbers::reading::numeral::digit_value(byte_at(line, 1));
-    let ones = numbers::reading::numeral::digit_value(byte_at(line, 2));
-    let axis = numbers::reading::numeral::digit_value(byte_at(line, 4));
+    let tens = numbers::digits::digit_value(byte_at(line, 1));
+    let ones = numbers::digits::digit_value(byte_at(line, 2));
+    let axis = numbers::digits::digit_value(byte_at(line, 4));
     let verdict = find_word(field(line, 6, 2), b"RJ OK");
     let status = find_word(field(line, 9, 4), b"IDLE BUSY");
     let warning = find_word(field(line, 14, 2), b"-- FD FQ FS FT FB FP FE WR");

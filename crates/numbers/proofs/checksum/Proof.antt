@@ -51,16 +51,4 @@ returns c = omega (arith, total-end (c .before .before .args .s .now) (c .before
 pub checksum-spec : {M : Type 1} → statement M
 checksum-spec =
     tie.close
-    (tie.spec
-    Inv-loop
-    μ-loop
-    loop-holds
-    shared-slice-read-sum
-    cast-sum
-    add-sum
-    add-i
-    loop-less
-    loop-again
-    sub-result
-    cast-result
-    returns)
+    (tie.spec Inv-loop μ-loop loop-holds shared-slice-read-sum cast-sum add-sum add-i loop-less loop-again sub-result cast-result returns)

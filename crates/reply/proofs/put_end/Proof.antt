@@ -7,18 +7,6 @@ use borrow.Author.Needs.{needs}
 use Rattle.reply.proofs.put_end.Statement.{statement}
 use Rattle.reply.proofs.put_end.Tie as tie
 
-put-sum-requires : tie.Need-put-sum-requires
-put-sum-requires c κs = search needs
-
-slice-aggregate-put-text : tie.Need-slice-aggregate-put-text
-slice-aggregate-put-text c = search needs
-
-put-text-requires : tie.Need-put-text-requires
-put-text-requires c κs = search needs
-
-same-length : tie.Need-same-length
-same-length c = search needs
-
 returns : tie.Need-returns
 unfolding ending text
 returns c = c .before .before .before .before .before .before .before .put-sum .ensures ▸ c .before .before .put-text .ensures
@@ -26,4 +14,4 @@ returns c = c .before .before .before .before .before .before .before .put-sum .
 pub put-end-spec : {M : Type 1} → statement M
 put-end-spec =
     tie.close
-    (tie.spec put-sum-requires slice-aggregate-put-text put-text-requires same-length returns)
+    (tie.spec (λ c κs. search needs) (λ c. search needs) (λ c κs. search needs) (λ c. search needs) returns)

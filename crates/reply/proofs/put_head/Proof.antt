@@ -7,42 +7,6 @@ use borrow.Author.Needs.{needs}
 use Rattle.reply.proofs.put_head.Statement.{statement}
 use Rattle.reply.proofs.put_head.Tie as tie
 
-put-byte-requires : tie.Need-put-byte-requires
-put-byte-requires c κs = search needs
-
-put-two-requires : tie.Need-put-two-requires
-put-two-requires c κs = search needs
-
-put-byte-requires-2 : tie.Need-put-byte-requires-2
-put-byte-requires-2 c κs = search needs
-
-put-number-requires : tie.Need-put-number-requires
-put-number-requires c κs = search needs
-
-put-byte-requires-3 : tie.Need-put-byte-requires-3
-put-byte-requires-3 c κs = search needs
-
-put-verdict-requires : tie.Need-put-verdict-requires
-put-verdict-requires c κs = search needs
-
-put-byte-requires-4 : tie.Need-put-byte-requires-4
-put-byte-requires-4 c κs = search needs
-
-put-status-requires : tie.Need-put-status-requires
-put-status-requires c κs = search needs
-
-put-byte-requires-5 : tie.Need-put-byte-requires-5
-put-byte-requires-5 c κs = search needs
-
-highest-requires : tie.Need-highest-requires
-highest-requires c κs = search needs
-
-put-warning-requires : tie.Need-put-warning-requires
-put-warning-requires c κs = search needs
-
-put-byte-requires-6 : tie.Need-put-byte-requires-6
-put-byte-requires-6 c κs = search needs
-
 returns : tie.Need-returns
 unfolding text
 returns c =
@@ -76,18 +40,6 @@ same-length c = wrote-length (returns c)
 pub put-head-spec : {M : Type 1} → statement M
 put-head-spec =
     tie.close
-    (tie.spec
-    put-byte-requires
-    put-two-requires
-    put-byte-requires-2
-    put-number-requires
-    put-byte-requires-3
-    put-verdict-requires
-    put-byte-requires-4
-    put-status-requires
-    put-byte-requires-5
-    highest-requires
-    put-warning-requires
-    put-byte-requires-6
-    same-length
-    returns)
+    (tie.spec (λ c κs. search needs) (λ c κs. search needs) (λ c κs. search needs) (λ c κs. search needs) (λ c κs. search needs)
+    (λ c κs. search needs) (λ c κs. search needs) (λ c κs. search needs) (λ c κs. search needs) (λ c κs. search needs)
+    (λ c κs. search needs) (λ c κs. search needs) same-length returns)

@@ -7,18 +7,6 @@ use borrow.Author.Needs.{needs}
 use Rattle.reply.proofs.put_sum.Statement.{statement}
 use Rattle.reply.proofs.put_sum.Tie as tie
 
-summed-requires : tie.Need-summed-requires
-summed-requires c κs = search needs
-
-put-byte-requires : tie.Need-put-byte-requires
-put-byte-requires c κs = search needs
-
-put-pair-requires : tie.Need-put-pair-requires
-put-pair-requires c κs = search needs
-
-same-length : tie.Need-same-length
-same-length c = search needs
-
 returns : tie.Need-returns
 unfolding text
 returns c =
@@ -33,4 +21,4 @@ returns-2 c = rw (sum-unwanted _ _ (c .if1 .left)) (wrote-none _ _)
 pub put-sum-spec : {M : Type 1} → statement M
 put-sum-spec =
     tie.close
-    (tie.spec summed-requires put-byte-requires put-pair-requires same-length returns returns-2)
+    (tie.spec (λ c κs. search needs) (λ c κs. search needs) (λ c κs. search needs) (λ c. search needs) returns returns-2)

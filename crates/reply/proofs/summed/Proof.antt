@@ -7,24 +7,6 @@ use borrow.Author.Needs.{needs}
 use Rattle.reply.proofs.summed.Statement.{statement}
 use Rattle.reply.proofs.summed.Tie as tie
 
-lesser-requires : tie.Need-lesser-requires
-lesser-requires c κs = search needs
-
-lesser-requires-2 : tie.Need-lesser-requires-2
-lesser-requires-2 c κs = search needs
-
-sub-checksum : tie.Need-sub-checksum
-sub-checksum c = search needs
-
-part-checksum-start : tie.Need-part-checksum-start
-part-checksum-start c = search needs
-
-part-checksum-end : tie.Need-part-checksum-end
-part-checksum-end c = search needs
-
-checksum-requires : tie.Need-checksum-requires
-checksum-requires c κs = search needs
-
 returns : tie.Need-returns
 returns c =
     let from = c .before .before in
@@ -33,11 +15,5 @@ returns c =
 pub summed-spec : {M : Type 1} → statement M
 summed-spec =
     tie.close
-    (tie.spec
-    lesser-requires
-    lesser-requires-2
-    sub-checksum
-    part-checksum-start
-    part-checksum-end
-    checksum-requires
-    returns)
+    (tie.spec (λ c κs. search needs) (λ c κs. search needs) (λ c. search needs) (λ c. search needs) (λ c. search needs)
+    (λ c κs. search needs) returns)

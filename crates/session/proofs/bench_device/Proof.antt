@@ -5,12 +5,10 @@ use borrow.Author.Needs.{needs}
 use Rattle.session.proofs.bench_device.Statement.{statement}
 use Rattle.session.proofs.bench_device.Tie as tie
 
-new-requires : tie.Need-new-requires
-new-requires c κs = search needs
-
 returns : tie.Need-returns
 unfolding benchDevice
 returns c = search needs
 
 pub bench-device-spec : {M : Type 1} → statement M
-bench-device-spec = tie.close (tie.spec new-requires returns)
+bench-device-spec = tie.close
+    (tie.spec (λ c κs. search needs) returns)

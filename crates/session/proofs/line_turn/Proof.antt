@@ -5,31 +5,13 @@ use borrow.Author.Needs.{needs}
 use Rattle.session.proofs.line_turn.Statement.{statement}
 use Rattle.session.proofs.line_turn.Tie as tie
 
-slice-aggregate-step : tie.Need-slice-aggregate-step
-slice-aggregate-step c = search needs
-
-step-requires : tie.Need-step-requires
-step-requires c κs = search needs
-
-slice-aggregate-put-answer : tie.Need-slice-aggregate-put-answer
-slice-aggregate-put-answer c = search needs
-
-put-answer-requires : tie.Need-put-answer-requires
-put-answer-requires c κs = search needs
-
-same-length : tie.Need-same-length
-same-length c = search needs
-
 returns : tie.Need-returns
-returns c = took-line _ _ (c .before .before .before .before .before .before .before .step .ensures) (c .before .before .put-answer .ensures)
+returns c =
+    let put-answer = c .before .before in
+    let step = put-answer .before .before .before .before .before in
+    took-line _ _ (step .step .ensures) (put-answer .put-answer .ensures)
 
 pub line-turn-spec : {M : Type 1} → statement M
 line-turn-spec =
     tie.close
-    (tie.spec
-    slice-aggregate-step
-    step-requires
-    slice-aggregate-put-answer
-    put-answer-requires
-    same-length
-    returns)
+    (tie.spec (λ c. search needs) (λ c κs. search needs) (λ c. search needs) (λ c κs. search needs) (λ c. search needs) returns)

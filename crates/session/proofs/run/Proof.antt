@@ -7,20 +7,8 @@ use Rattle.session.proofs.Turns.{ran}
 use Rattle.session.proofs.run.Statement.{statement}
 use Rattle.session.proofs.run.Tie as tie
 
-lesser-requires : tie.Need-lesser-requires
-lesser-requires c κs = search needs
-
-bench-device-requires : tie.Need-bench-device-requires
-bench-device-requires c κs = search needs
-
 slice-aggregate-run-parts : tie.Need-slice-aggregate-run-parts
 slice-aggregate-run-parts c = simp length-take (omega (arith, c .before .before .lesser .ensures))
-
-run-parts-requires : tie.Need-run-parts-requires
-run-parts-requires c κs = search needs
-
-same-length : tie.Need-same-length
-same-length c = search needs
 
 returns : tie.Need-returns
 returns c =
@@ -30,10 +18,4 @@ returns c =
 pub run-spec : {M : Type 1} → statement M
 run-spec =
     tie.close
-    (tie.spec
-    lesser-requires
-    bench-device-requires
-    slice-aggregate-run-parts
-    run-parts-requires
-    same-length
-    returns)
+    (tie.spec (λ c κs. search needs) (λ c κs. search needs) slice-aggregate-run-parts (λ c κs. search needs) (λ c. search needs) returns)

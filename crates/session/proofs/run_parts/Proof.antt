@@ -19,9 +19,6 @@ abbrev μ-loop : tie.MeasureT-loop
 loop-holds : tie.Need-loop-holds Inv-loop μ-loop
 loop-holds c = running-first _ _ _
 
-part-end-requires : tie.Need-part-end-requires Inv-loop μ-loop
-part-end-requires c κs = search needs
-
 sub-turn : tie.Need-sub-turn Inv-loop μ-loop
 sub-turn c = omega (arith, part-past _ _ (c .before .loop-test .taken) (c .part-end .ensures))
 
@@ -31,9 +28,6 @@ part-turn-start c = omega (arith, part-past _ _ (c .before .loop-test .taken) (c
 part-turn-end : tie.Need-part-turn-end Inv-loop μ-loop
 part-turn-end c = part-inside _ _ (c .before .loop-test .taken) (c .part-end .ensures)
 
-turn-requires : tie.Need-turn-requires Inv-loop μ-loop
-turn-requires c κs = search needs
-
 loop-less : tie.Need-loop-less Inv-loop μ-loop
 loop-less c =
     let part = c .before .before .before .before .before .before in
@@ -41,8 +35,9 @@ loop-less c =
 
 loop-again : tie.Need-loop-again Inv-loop μ-loop
 loop-again c =
-    let part = c .before .before .before .before .before .before in
-    running-more (part .before .before .loop .inv) (part .before .loop-test .taken) (part .part-end .ensures) (c .before .before .before .turn .ensures)
+    let turn = c .before .before .before in
+    let part = turn .before .before .before in
+    running-more (part .before .before .loop .inv) (part .before .loop-test .taken) (part .part-end .ensures) (turn .turn .ensures)
 
 same-length : tie.Need-same-length Inv-loop μ-loop
 same-length c = wrote-length (c .before .loop .inv .wrote)
@@ -53,16 +48,5 @@ returns c = running-end (c .before .loop .inv) (c .loop-test .left)
 pub run-parts-spec : {M : Type 1} → statement M
 run-parts-spec =
     tie.close
-    (tie.spec
-    Inv-loop
-    μ-loop
-    loop-holds
-    part-end-requires
-    sub-turn
-    part-turn-start
-    part-turn-end
-    turn-requires
-    loop-less
-    loop-again
-    same-length
-    returns)
+    (tie.spec Inv-loop μ-loop loop-holds (λ c κs. search needs) sub-turn part-turn-start part-turn-end (λ c κs. search needs) loop-less
+    loop-again same-length returns)

@@ -4,42 +4,6 @@ use borrow.Author.Needs.{needs}
 use Rattle.settings.proofs.device_range.Statement.{statement}
 use Rattle.settings.proofs.device_range.Tie as tie
 
-enum-told : tie.Need-enum-told
-enum-told c = search needs
-
-to-requires : tie.Need-to-requires
-to-requires c κs = search needs
-
-enum-told-2 : tie.Need-enum-told-2
-enum-told-2 c = search needs
-
-to-requires-2 : tie.Need-to-requires-2
-to-requires-2 c κs = search needs
-
-enum-told-3 : tie.Need-enum-told-3
-enum-told-3 c = search needs
-
-to-requires-3 : tie.Need-to-requires-3
-to-requires-3 c κs = search needs
-
-enum-told-4 : tie.Need-enum-told-4
-enum-told-4 c = search needs
-
-to-requires-4 : tie.Need-to-requires-4
-to-requires-4 c κs = search needs
-
-enum-told-5 : tie.Need-enum-told-5
-enum-told-5 c = search needs
-
-to-requires-5 : tie.Need-to-requires-5
-to-requires-5 c κs = search needs
-
-enum-told-6 : tie.Need-enum-told-6
-enum-told-6 c = search needs
-
-to-requires-6 : tie.Need-to-requires-6
-to-requires-6 c κs = search needs
-
 returns : tie.Need-returns
 returns c = simp (c .to .ensures, c .before .enum-told .given .1)
 
@@ -61,22 +25,6 @@ returns-6 c = simp (c .to6 .ensures, c .before .enum-told6 .given .1)
 pub device-range-spec : {M : Type 1} → statement M
 device-range-spec =
     tie.close
-    (tie.spec
-    enum-told
-    to-requires
-    enum-told-2
-    to-requires-2
-    enum-told-3
-    to-requires-3
-    enum-told-4
-    to-requires-4
-    enum-told-5
-    to-requires-5
-    enum-told-6
-    to-requires-6
-    returns
-    returns-2
-    returns-3
-    returns-4
-    returns-5
-    returns-6)
+    (tie.spec (λ c. search needs) (λ c κs. search needs) (λ c. search needs) (λ c κs. search needs) (λ c. search needs)
+    (λ c κs. search needs) (λ c. search needs) (λ c κs. search needs) (λ c. search needs) (λ c κs. search needs) (λ c. search needs)
+    (λ c κs. search needs) returns returns-2 returns-3 returns-4 returns-5 returns-6)

@@ -5,18 +5,6 @@ use borrow.Author.Needs.{needs}
 use Rattle.view.proofs.head.Statement.{statement}
 use Rattle.view.proofs.head.Tie as tie
 
-shown-axis-requires : tie.Need-shown-axis-requires
-shown-axis-requires c κs = search needs
-
-place-requires : tie.Need-place-requires
-place-requires c κs = search needs
-
-moving-requires : tie.Need-moving-requires
-moving-requires c κs = search needs
-
-active-requires : tie.Need-active-requires
-active-requires c κs = search needs
-
 returns : tie.Need-returns
 unfolding headOf busy warningsOf
 returns c =
@@ -26,4 +14,4 @@ returns c =
 pub head-spec : {M : Type 1} → statement M
 head-spec =
     tie.close
-    (tie.spec shown-axis-requires place-requires moving-requires active-requires returns)
+    (tie.spec (λ c κs. search needs) (λ c κs. search needs) (λ c κs. search needs) (λ c κs. search needs) returns)

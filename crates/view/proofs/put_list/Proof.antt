@@ -19,7 +19,8 @@ use Rattle.view.proofs.put_list.Tie as tie
 
 abbrev Inv-loop : tie.InvT-loop
 Inv-loop buf₀ at v from many axes next₀ n₀ buf next n =
-    Writing buf₀ next₀ (trail (decimals (drop 1 (map (valueIn v) (take many (drop from axes)))))) (decimals (drop n (map (valueIn v) (take many (drop from axes))))) buf next
+    Writing buf₀ next₀ (trail (decimals (drop 1 (map (valueIn v) (take many (drop from axes))))))
+    (decimals (drop n (map (valueIn v) (take many (drop from axes))))) buf next
 
 abbrev μ-loop : tie.MeasureT-loop
 μ-loop buf₀ at v from many axes next₀ n₀ buf next n = many - n
@@ -42,17 +43,8 @@ mul-first c = omega arith
 array-copy-out-first : tie.Need-array-copy-out-first Inv-loop μ-loop
 array-copy-out-first c = omega arith
 
-value-of-requires : tie.Need-value-of-requires Inv-loop μ-loop
-value-of-requires c κs = search needs
-
-put-signed-requires : tie.Need-put-signed-requires Inv-loop μ-loop
-put-signed-requires c κs = search needs
-
 loop-holds : tie.Need-loop-holds Inv-loop μ-loop
 loop-holds c = writing-first _ _ _
-
-put-byte-requires : tie.Need-put-byte-requires Inv-loop μ-loop
-put-byte-requires c κs = search needs
 
 add-i : tie.Need-add-i Inv-loop μ-loop
 add-i c = omega arith
@@ -62,12 +54,6 @@ mul-a c = omega arith
 
 array-copy-out-a : tie.Need-array-copy-out-a Inv-loop μ-loop
 array-copy-out-a c = omega arith
-
-value-of-requires-2 : tie.Need-value-of-requires-2 Inv-loop μ-loop
-value-of-requires-2 c κs = search needs
-
-put-signed-requires-2 : tie.Need-put-signed-requires-2 Inv-loop μ-loop
-put-signed-requires-2 c κs = search needs
 
 add-n : tie.Need-add-n Inv-loop μ-loop
 add-n c = omega arith
@@ -82,18 +68,23 @@ loop-again c =
     let turn = gap .before .before in
     let s = turn .before .before .before .before .before .before .before .before .before .before in
     let l = turn .before .loop in
-    writing-more (rw (list-more (s .args .t3) (s .args .from) (s .args .many) (four s) (s .pre) (s .args .v) (l .n) _ zero _ (turn .loop-test .taken) (value .before .value-of2 .ensures)) at (l .inv))
+    writing-more (rw (list-more (s .args .t3) (s .args .from) (s .args .many) (four s) (s .pre) (s .args .v) (l .n) _ zero _
+    (turn .loop-test .taken) (value .before .value-of2 .ensures)) at (l .inv))
     (gap .put-byte .ensures ▸ value .put-signed2 .ensures)
 
 returns-2 : tie.Need-returns-2 Inv-loop μ-loop
 returns-2 c =
-    let value = c .before .before .before .before in
+    let loop = c .before in
+    let value = loop .before .before .before in
     let s = value .before .before .before .before .before .before in
-    let l = c .before .loop in
+    let l = loop .loop in
     let some = value .before .before .before .before .if1 .left in (
       four s,
-      rw (list-some (s .args .t3) (s .args .from) (s .args .many) (four s) (s .pre) (s .args .v) _ zero _ (omega (arith, some)) (value .before .value-of .ensures))
-          (value .put-signed .ensures ▸ writing-end (rw (list-end (s .args .t3) (s .args .from) (s .args .many) (four s) (s .pre) (s .args .v) (l .n) (c .loop-test .left)) at (l .inv))),
+      rw (list-some (s .args .t3) (s .args .from) (s .args .many) (four s) (s .pre) (s .args .v) _ zero _ (omega (arith, some))
+          (value .before .value-of .ensures))
+          (value .put-signed .ensures ▸ writing-end
+          (rw (list-end (s .args .t3) (s .args .from) (s .args .many) (four s) (s .pre) (s .args .v) (l .n) (c .loop-test .left)) at
+          (l .inv))),
     )
 
 same-length : tie.Need-same-length Inv-loop μ-loop
@@ -102,23 +93,6 @@ same-length c = wrote-length (returns-2 c .1)
 pub put-list-spec : {M : Type 1} → statement M
 put-list-spec =
     tie.close
-    (tie.spec
-    Inv-loop
-    μ-loop
-    returns
-    mul-first
-    array-copy-out-first
-    value-of-requires
-    put-signed-requires
-    loop-holds
-    put-byte-requires
-    add-i
-    mul-a
-    array-copy-out-a
-    value-of-requires-2
-    put-signed-requires-2
-    add-n
-    loop-less
-    loop-again
-    same-length
+    (tie.spec Inv-loop μ-loop returns mul-first array-copy-out-first (λ c κs. search needs) (λ c κs. search needs) loop-holds
+    (λ c κs. search needs) add-i mul-a array-copy-out-a (λ c κs. search needs) (λ c κs. search needs) add-n loop-less loop-again same-length
     returns-2)

@@ -6,9 +6,6 @@ use borrow.Author.Needs.{needs}
 use Rattle.view.proofs.shown_axis.Statement.{statement}
 use Rattle.view.proofs.shown_axis.Tie as tie
 
-cast-if1 : tie.Need-cast-if1
-cast-if1 c = search needs
-
 returns : tie.Need-returns
 unfolding shownAxis
 returns c = simp (le-leb _ _ (c .if1 .taken))
@@ -18,4 +15,5 @@ unfolding shownAxis
 returns-2 c = simp (lt-leb _ _ (c .if1 .left))
 
 pub shown-axis-spec : {M : Type 1} → statement M
-shown-axis-spec = tie.close (tie.spec cast-if1 returns returns-2)
+shown-axis-spec = tie.close
+    (tie.spec (λ c. search needs) returns returns-2)

@@ -30,19 +30,10 @@ the-word c = found-word _ _ (c .before .before .before .next-word .ensures) _ _ 
 loop-holds : tie.Need-loop-holds Inv-loop μ-loop
 loop-holds c = omega arith
 
-next-word-requires : tie.Need-next-word-requires Inv-loop μ-loop
-next-word-requires c κs = search needs
-
-enum-told : tie.Need-enum-told Inv-loop μ-loop
-enum-told c = search needs
-
 returns : tie.Need-returns Inv-loop μ-loop
 returns c =
     let l = c .before .before .before .before in
     none-left _ _ _ (l .loop .at) (l .loop .inv .2) (found-end _ _ (c .before .before .next-word .ensures) (search))
-
-enum-known-start : tie.Need-enum-known-start Inv-loop μ-loop
-enum-known-start c = search needs
 
 sub-same-bytes : tie.Need-sub-same-bytes Inv-loop μ-loop
 sub-same-bytes c = omega (arith, the-word c)
@@ -53,13 +44,12 @@ part-same-bytes-start c = omega (arith, the-word c)
 part-same-bytes-end : tie.Need-part-same-bytes-end Inv-loop μ-loop
 part-same-bytes-end c = omega (arith, the-word c)
 
-same-bytes-requires : tie.Need-same-bytes-requires Inv-loop μ-loop
-same-bytes-requires c κs = search needs
-
 returns-2 : tie.Need-returns-2 Inv-loop μ-loop
 returns-2 c =
-    let f = c .before .before .before in
-    here _ _ _ _ (f .before .before .before .before .before .loop .inv .2) _ _ (the-word f) (sym (c .before .same-bytes .ensures) ∙ c .if1 .taken)
+    let same-bytes = c .before in
+    let f = same-bytes .before .before in
+    here _ _ _ _ (f .before .before .before .before .before .loop .inv .2) _ _ (the-word f)
+    (sym (same-bytes .same-bytes .ensures) ∙ c .if1 .taken)
 
 add-k : tie.Need-add-k Inv-loop μ-loop
 add-k c = omega arith
@@ -80,20 +70,5 @@ returns-3 c = ended _ _ _ _ (c .before .loop .inv .2) (c .loop-test .left)
 pub find-word-spec : {M : Type 1} → statement M
 find-word-spec =
     tie.close
-    (tie.spec
-    Inv-loop
-    μ-loop
-    loop-holds
-    next-word-requires
-    enum-told
-    returns
-    enum-known-start
-    sub-same-bytes
-    part-same-bytes-start
-    part-same-bytes-end
-    same-bytes-requires
-    returns-2
-    add-k
-    loop-less
-    loop-again
-    returns-3)
+    (tie.spec Inv-loop μ-loop loop-holds (λ c κs. search needs) (λ c. search needs) returns (λ c. search needs) sub-same-bytes
+    part-same-bytes-start part-same-bytes-end (λ c κs. search needs) returns-2 add-k loop-less loop-again returns-3)

@@ -6,17 +6,12 @@ use Rattle.words.proofs.Space.{next-end, next-word}
 use Rattle.words.proofs.next_word.Statement.{statement}
 use Rattle.words.proofs.next_word.Tie as tie
 
-skip-spaces-requires : tie.Need-skip-spaces-requires
-skip-spaces-requires c κs = search needs
-
 returns : tie.Need-returns
 returns c = sym (next-end _ _ _ (c .before .skip-spaces .ensures) (c .if1 .taken))
-
-word-end-requires : tie.Need-word-end-requires
-word-end-requires c κs = search needs
 
 returns-2 : tie.Need-returns-2
 returns-2 c = rw (c .word-end .ensures) (sym (next-word _ _ _ (c .before .before .skip-spaces .ensures) (c .before .if1 .left)))
 
 pub next-word-spec : {M : Type 1} → statement M
-next-word-spec = tie.close (tie.spec skip-spaces-requires returns word-end-requires returns-2)
+next-word-spec = tie.close
+    (tie.spec (λ c κs. search needs) returns (λ c κs. search needs) returns-2)

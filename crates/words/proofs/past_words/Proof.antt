@@ -21,9 +21,6 @@ loop-holds : tie.Need-loop-holds Inv-loop μ-loop
 unfolding pastMany
 loop-holds c = (omega arith, refl, refl)
 
-past-word-requires : tie.Need-past-word-requires Inv-loop μ-loop
-past-word-requires c κs = search needs
-
 add-passed : tie.Need-add-passed Inv-loop μ-loop
 add-passed c = omega arith
 
@@ -49,4 +46,4 @@ returns c =
 pub past-words-spec : {M : Type 1} → statement M
 past-words-spec =
     tie.close
-    (tie.spec Inv-loop μ-loop loop-holds past-word-requires add-passed loop-less loop-again returns)
+    (tie.spec Inv-loop μ-loop loop-holds (λ c κs. search needs) add-passed loop-less loop-again returns)

@@ -5,12 +5,10 @@ use borrow.Author.Needs.{needs}
 use Rattle.axis.proofs.Axis.fresh.Statement.{statement}
 use Rattle.axis.proofs.Axis.fresh.Tie as tie
 
-fresh-requires : tie.Need-fresh-requires
-fresh-requires c κs = search needs
-
 returns : tie.Need-returns
 unfolding freshAxis
 returns c = simp (c .fresh .ensures)
 
 pub fresh-spec : {M : Type 1} → statement M
-fresh-spec = tie.close (tie.spec fresh-requires returns)
+fresh-spec = tie.close
+    (tie.spec (λ c κs. search needs) returns)

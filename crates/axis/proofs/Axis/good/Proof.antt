@@ -5,18 +5,10 @@ use borrow.Author.Needs.{needs}
 use Rattle.axis.proofs.Axis.good.Statement.{statement}
 use Rattle.axis.proofs.Axis.good.Tie as tie
 
-good-requires : tie.Need-good-requires
-good-requires c κs = search needs
-
-all-bounded-requires : tie.Need-all-bounded-requires
-all-bounded-requires c κs = search needs
-
-good-requires-2 : tie.Need-good-requires-2
-good-requires-2 c κs = search needs
-
 returns : tie.Need-returns
 unfolding goodAxis
 returns c = simp (c .good3 .ensures, c .before .all-bounded .ensures, c .before .before .good2 .ensures)
 
 pub good-spec : {M : Type 1} → statement M
-good-spec = tie.close (tie.spec good-requires all-bounded-requires good-requires-2 returns)
+good-spec = tie.close
+    (tie.spec (λ c κs. search needs) (λ c κs. search needs) (λ c κs. search needs) returns)

@@ -6,20 +6,18 @@ use borrow.Author.Needs.{needs}
 use Rattle.axis.proofs.Axis.may_move_to.Statement.{statement}
 use Rattle.axis.proofs.Axis.may_move_to.Tie as tie
 
-aim-requires : tie.Need-aim-requires
-aim-requires c κs = search needs
-
-enum-told : tie.Need-enum-told
-enum-told c = search needs
-
-enum-told-2 : tie.Need-enum-told-2
-enum-told-2 c = search needs
-
 returns : tie.Need-returns
-returns c = may (c .before .before .before .args .t) (c .before .before .before .args .self) _ (sym (c .before .before .aim .ensures) ∙ c .enum-told .given .1)
+returns c =
+    let aim = c .before .before in
+    let start = aim .before in
+    may (start .args .t) (start .args .self) _ (sym (aim .aim .ensures) ∙ c .enum-told .given .1)
 
 returns-2 : tie.Need-returns-2
-returns-2 c = may-not (c .before .before .before .args .t) (c .before .before .before .args .self) (sym (c .before .before .aim .ensures) ∙ c .enum-told2 .given .1)
+returns-2 c =
+    let aim = c .before .before in
+    let start = aim .before in
+    may-not (start .args .t) (start .args .self) (sym (aim .aim .ensures) ∙ c .enum-told2 .given .1)
 
 pub may-move-to-spec : {M : Type 1} → statement M
-may-move-to-spec = tie.close (tie.spec aim-requires enum-told enum-told-2 returns returns-2)
+may-move-to-spec = tie.close
+    (tie.spec (λ c κs. search needs) (λ c. search needs) (λ c. search needs) returns returns-2)

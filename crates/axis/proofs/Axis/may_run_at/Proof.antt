@@ -5,12 +5,10 @@ use borrow.Author.Needs.{needs}
 use Rattle.axis.proofs.Axis.may_run_at.Statement.{statement}
 use Rattle.axis.proofs.Axis.may_run_at.Tie as tie
 
-within-requires : tie.Need-within-requires
-within-requires c κs = search needs
-
 returns : tie.Need-returns
 unfolding mayRunAt
 returns c = c .within .ensures
 
 pub may-run-at-spec : {M : Type 1} → statement M
-may-run-at-spec = tie.close (tie.spec within-requires returns)
+may-run-at-spec = tie.close
+    (tie.spec (λ c κs. search needs) returns)

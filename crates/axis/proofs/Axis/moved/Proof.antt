@@ -6,24 +6,20 @@ use borrow.Author.Needs.{needs}
 use Rattle.axis.proofs.Axis.moved.Statement.{statement}
 use Rattle.axis.proofs.Axis.moved.Tie as tie
 
-aim-requires : tie.Need-aim-requires
-aim-requires c κs = search needs
-
-enum-known-p : tie.Need-enum-known-p
-enum-known-p c = search needs
-
-with-motion-requires : tie.Need-with-motion-requires
-with-motion-requires c κs = search needs
-
-enum-told : tie.Need-enum-told
-enum-told c = search needs
-
 returns : tie.Need-returns
-returns c = c .with-motion .ensures ∙ moved-to (c .before .before .before .before .before .args .t) (c .before .before .before .before .before .args .self) _ (sym (c .before .before .before .before .aim .ensures) ∙ c .before .before .p .given .1)
+returns c =
+    let p = c .before .before in
+    let aim = p .before .before in
+    let start = aim .before in
+    c .with-motion .ensures ∙ moved-to (start .args .t) (start .args .self) _ (sym (aim .aim .ensures) ∙ p .p .given .1)
 
 returns-2 : tie.Need-returns-2
-returns-2 c = moved-not (c .before .before .before .args .t) (c .before .before .before .args .self) (sym (c .before .before .aim .ensures) ∙ c .enum-told .given .1)
+returns-2 c =
+    let aim = c .before .before in
+    let start = aim .before in
+    moved-not (start .args .t) (start .args .self) (sym (aim .aim .ensures) ∙ c .enum-told .given .1)
 
 pub moved-spec : {M : Type 1} → statement M
 moved-spec =
-    tie.close (tie.spec aim-requires enum-known-p with-motion-requires enum-told returns returns-2)
+    tie.close
+    (tie.spec (λ c κs. search needs) (λ c. search needs) (λ c κs. search needs) (λ c. search needs) returns returns-2)

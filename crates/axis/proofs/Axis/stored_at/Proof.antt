@@ -6,28 +6,30 @@ use borrow.Author.Needs.{needs}
 use Rattle.axis.proofs.Axis.stored_at.Statement.{statement}
 use Rattle.axis.proofs.Axis.stored_at.Tie as tie
 
-place-requires : tie.Need-place-requires
-place-requires c κs = search needs
-
 returns : tie.Need-returns
 unfolding stored
 returns c = simp (simp (c .before .place .ensures) at (lt-leb _ _ (c .if1 .taken)))
 
 returns-2 : tie.Need-returns-2
 unfolding stored
-returns-2 c = simp (simp (c .before .before .place .ensures) at (le-leb _ _ (c .before .if1 .left)), simp (c .before .before .place .ensures) at (lt-leb _ _ (c .if2 .taken)))
-
-mul-result : tie.Need-mul-result
-mul-result c = search needs
-
-element-copy-out-result : tie.Need-element-copy-out-result
-element-copy-out-result c = search needs
+returns-2 c =
+    let if1 = c .before in
+    let place = if1 .before in
+    simp (simp (place .place .ensures) at (le-leb _ _ (if1 .if1 .left)), simp (place .place .ensures) at (lt-leb _ _ (c .if2 .taken)))
 
 returns-3 : tie.Need-returns-3
 unfolding stored
-returns-3 c = simp (c .before .before .before .place .ensures, simp (c .before .before .before .place .ensures) at (le-leb _ _ (c .before .before .if1 .left)), simp (c .before .before .before .place .ensures) at (le-leb _ _ (c .before .if2 .left)))
+returns-3 c =
+    let if2 = c .before in
+    let if1 = if2 .before in
+    let place = if1 .before in
+    simp (
+      place .place .ensures,
+      simp (place .place .ensures) at (le-leb _ _ (if1 .if1 .left)),
+      simp (place .place .ensures) at (le-leb _ _ (if2 .if2 .left)),
+    )
 
 pub stored-at-spec : {M : Type 1} → statement M
 stored-at-spec =
     tie.close
-    (tie.spec place-requires returns returns-2 mul-result element-copy-out-result returns-3)
+    (tie.spec (λ c κs. search needs) returns returns-2 (λ c. search needs) (λ c. search needs) returns-3)

@@ -27,4 +27,5 @@ returns-7 : tie.Need-returns-7
 returns-7 c = let e : c .before .args .k ≡ 7 = omega arith in simp e
 
 pub bit-spec : {M : Type 1} → statement M
-bit-spec = tie.close (tie.spec returns returns-2 returns-3 returns-4 returns-5 returns-6 returns-7)
+bit-spec = tie.close
+    (tie.spec returns returns-2 returns-3 returns-4 returns-5 returns-6 returns-7)

@@ -10,14 +10,15 @@ use borrow.Author.Needs.{needs}
 use Rattle.axis.proofs.reports.raise.Statement.{statement}
 use Rattle.axis.proofs.reports.raise.Tie as tie
 
-bit-requires : tie.Need-bit-requires
-bit-requires c κs = search needs
-
 div-if1 : tie.Need-div-if1
 div-if1 c = rw (c .bit .ensures) (one-le-pow (c .before .args .k - 1) 2 (omega arith))
 
 add-result : tie.Need-add-result
-add-result c = rw (c .before .bit .ensures) (raise-fits (c .before .before .args .k) (c .before .before .args .m) (omega arith) (omega arith) (omega arith) (rw (c .before .bit .ensures) at (c .if1 .left)))
+add-result c =
+    let bit = c .before in
+    let start = bit .before in
+    rw (bit .bit .ensures) (raise-fits (start .args .k) (start .args .m) (omega arith) (omega arith) (omega arith)
+    (rw (bit .bit .ensures) at (c .if1 .left)))
 
 returns : tie.Need-returns
 unfolding raise
@@ -28,4 +29,5 @@ unfolding raise
 returns-2 c = simp (c .before .bit .ensures, simp (c .before .bit .ensures) at (ne-eqb _ _ (c .if1 .left)))
 
 pub raise-spec : {M : Type 1} → statement M
-raise-spec = tie.close (tie.spec bit-requires div-if1 add-result returns returns-2)
+raise-spec = tie.close
+    (tie.spec (λ c κs. search needs) div-if1 add-result returns returns-2)

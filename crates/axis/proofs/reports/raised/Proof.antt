@@ -6,28 +6,33 @@ use borrow.Author.Needs.{needs}
 use Rattle.axis.proofs.reports.raised.Statement.{statement}
 use Rattle.axis.proofs.reports.raised.Tie as tie
 
-place-requires : tie.Need-place-requires
-place-requires c κs = search needs
-
 returns : tie.Need-returns
 unfolding raised
 returns c = simp (simp (c .before .place .ensures) at (lt-leb _ _ (c .if1 .taken)))
 
 returns-2 : tie.Need-returns-2
 unfolding raised
-returns-2 c = simp (simp (c .before .before .place .ensures) at (le-leb _ _ (c .before .if1 .left)), simp (c .before .before .place .ensures) at (lt-leb _ _ (c .if2 .taken)))
-
-raise-requires : tie.Need-raise-requires
-raise-requires c κs = search needs
-
-with-warnings-requires : tie.Need-with-warnings-requires
-with-warnings-requires c κs = search needs
+returns-2 c =
+    let if1 = c .before in
+    let place = if1 .before in
+    simp (simp (place .place .ensures) at (le-leb _ _ (if1 .if1 .left)), simp (place .place .ensures) at (lt-leb _ _ (c .if2 .taken)))
 
 returns-3 : tie.Need-returns-3
 unfolding raised
-returns-3 c = simp (c .with-warnings .ensures, c .before .raise .ensures, simp (c .before .before .before .before .place .ensures) at (le-leb _ _ (c .before .before .before .if1 .left)), simp (c .before .before .before .before .place .ensures) at (le-leb _ _ (c .before .before .if2 .left)), c .before .before .before .before .place .ensures)
+returns-3 c =
+    let raise = c .before in
+    let if2 = raise .before in
+    let if1 = if2 .before in
+    let place = if1 .before in
+    simp (
+      c .with-warnings .ensures,
+      raise .raise .ensures,
+      simp (place .place .ensures) at (le-leb _ _ (if1 .if1 .left)),
+      simp (place .place .ensures) at (le-leb _ _ (if2 .if2 .left)),
+      place .place .ensures,
+    )
 
 pub raised-spec : {M : Type 1} → statement M
 raised-spec =
     tie.close
-    (tie.spec place-requires returns returns-2 raise-requires with-warnings-requires returns-3)
+    (tie.spec (λ c κs. search needs) returns returns-2 (λ c κs. search needs) (λ c κs. search needs) returns-3)

@@ -8,18 +8,6 @@ use borrow.Author.Needs.{needs}
 use Rattle.axis.proofs.reports.report_of.Statement.{statement}
 use Rattle.axis.proofs.reports.report_of.Tie as tie
 
-place-requires : tie.Need-place-requires
-place-requires c κs = search needs
-
-position-requires : tie.Need-position-requires
-position-requires c κs = search needs
-
-position-requires-2 : tie.Need-position-requires-2
-position-requires-2 c κs = search needs
-
-position-requires-3 : tie.Need-position-requires-3
-position-requires-3 c κs = search needs
-
 returns : tie.Need-returns
 unfolding reportOf
 returns c = simp (c .position .ensures, sym (c .before .before .place .ensures) ∙ c .before .match .keys1)
@@ -46,14 +34,5 @@ returns-6 c = other-kind (c .before .before .args .kind) (c .before .before .arg
 pub report-of-spec : {M : Type 1} → statement M
 report-of-spec =
     tie.close
-    (tie.spec
-    place-requires
-    position-requires
-    position-requires-2
-    position-requires-3
-    returns
-    returns-2
-    returns-3
-    returns-4
-    returns-5
-    returns-6)
+    (tie.spec (λ c κs. search needs) (λ c κs. search needs) (λ c κs. search needs) (λ c κs. search needs) returns returns-2 returns-3
+    returns-4 returns-5 returns-6)

@@ -7,24 +7,6 @@ use borrow.Author.Needs.{needs}
 use Rattle.device.proofs.Device.all_in_range.Statement.{statement}
 use Rattle.device.proofs.Device.all_in_range.Tie as tie
 
-in-range-requires : tie.Need-in-range-requires
-in-range-requires c κs = search needs
-
-in-range-requires-2 : tie.Need-in-range-requires-2
-in-range-requires-2 c κs = search needs
-
-in-range-requires-3 : tie.Need-in-range-requires-3
-in-range-requires-3 c κs = search needs
-
-in-range-requires-4 : tie.Need-in-range-requires-4
-in-range-requires-4 c κs = search needs
-
-in-range-requires-5 : tie.Need-in-range-requires-5
-in-range-requires-5 c κs = search needs
-
-in-range-requires-6 : tie.Need-in-range-requires-6
-in-range-requires-6 c κs = search needs
-
 returns : tie.Need-returns
 unfolding fold deviceSettings
 returns c = simp (
@@ -40,11 +22,5 @@ returns c = simp (
 pub all-in-range-spec : {M : Type 1} → statement M
 all-in-range-spec =
     tie.close
-    (tie.spec
-    in-range-requires
-    in-range-requires-2
-    in-range-requires-3
-    in-range-requires-4
-    in-range-requires-5
-    in-range-requires-6
-    returns)
+    (tie.spec (λ c κs. search needs) (λ c κs. search needs) (λ c κs. search needs) (λ c κs. search needs) (λ c κs. search needs)
+    (λ c κs. search needs) returns)

@@ -5,15 +5,10 @@ use borrow.Author.Needs.{needs}
 use Rattle.device.proofs.Device.change.Statement.{statement}
 use Rattle.device.proofs.Device.change.Tie as tie
 
-many-requires : tie.Need-many-requires
-many-requires c κs = search needs
-
-change-each-requires : tie.Need-change-each-requires
-change-each-requires c κs = search needs
-
 returns : tie.Need-returns
 unfolding onAxes
 returns c = simp (c .change-each .ensures, c .before .many .ensures)
 
 pub change-spec : {M : Type 1} → statement M
-change-spec = tie.close (tie.spec many-requires change-each-requires returns)
+change-spec = tie.close
+    (tie.spec (λ c κs. search needs) (λ c κs. search needs) returns)

@@ -5,15 +5,10 @@ use borrow.Author.Needs.{needs}
 use Rattle.device.proofs.Device.each.Statement.{statement}
 use Rattle.device.proofs.Device.each.Tie as tie
 
-many-requires : tie.Need-many-requires
-many-requires c κs = search needs
-
-ask-each-requires : tie.Need-ask-each-requires
-ask-each-requires c κs = search needs
-
 returns : tie.Need-returns
 unfolding axesOf
 returns c = simp (c .ask-each .ensures, c .before .many .ensures)
 
 pub each-spec : {M : Type 1} → statement M
-each-spec = tie.close (tie.spec many-requires ask-each-requires returns)
+each-spec = tie.close
+    (tie.spec (λ c κs. search needs) (λ c κs. search needs) returns)

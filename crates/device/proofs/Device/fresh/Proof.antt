@@ -5,15 +5,6 @@ use borrow.Author.Needs.{needs}
 use Rattle.device.proofs.Device.fresh.Statement.{statement}
 use Rattle.device.proofs.Device.fresh.Tie as tie
 
-may-be-fresh-requires : tie.Need-may-be-fresh-requires
-may-be-fresh-requires c κs = search needs
-
-new-requires : tie.Need-new-requires
-new-requires c κs = search needs
-
-new-requires-2 : tie.Need-new-requires-2
-new-requires-2 c κs = search needs
-
 returns : tie.Need-returns
 unfolding askFresh
 returns c = simp (c .new .ensures, simp (c .before .before .may-be-fresh .ensures) at (c .before .if1 .taken))
@@ -25,9 +16,4 @@ returns-2 c = simp (c .new2 .ensures, simp (c .before .before .may-be-fresh .ens
 pub fresh-spec : {M : Type 1} → statement M
 fresh-spec =
     tie.close
-    (tie.spec
-    may-be-fresh-requires
-    new-requires
-    new-requires-2
-    returns
-    returns-2)
+    (tie.spec (λ c κs. search needs) (λ c κs. search needs) (λ c κs. search needs) returns returns-2)

@@ -6,9 +6,6 @@ use borrow.Author.Needs.{needs}
 use Rattle.device.proofs.Device.many.Statement.{statement}
 use Rattle.device.proofs.Device.many.Tie as tie
 
-cast-result : tie.Need-cast-result
-cast-result c = search needs
-
 returns : tie.Need-returns
 unfolding many
 returns c = simp (eq-eqb _ _ (c .before .if1 .taken))
@@ -18,4 +15,5 @@ unfolding many
 returns-2 c = simp (ne-eqb _ _ (c .if1 .left))
 
 pub many-spec : {M : Type 1} → statement M
-many-spec = tie.close (tie.spec cast-result returns returns-2)
+many-spec = tie.close
+    (tie.spec (λ c. search needs) returns returns-2)

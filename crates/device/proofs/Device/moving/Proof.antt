@@ -5,15 +5,10 @@ use borrow.Author.Needs.{needs}
 use Rattle.device.proofs.Device.moving.Statement.{statement}
 use Rattle.device.proofs.Device.moving.Tie as tie
 
-many-requires : tie.Need-many-requires
-many-requires c κs = search needs
-
-any-moving-requires : tie.Need-any-moving-requires
-any-moving-requires c κs = search needs
-
 returns : tie.Need-returns
 unfolding axesOf
 returns c = simp (c .any-moving .ensures, c .before .many .ensures)
 
 pub moving-spec : {M : Type 1} → statement M
-moving-spec = tie.close (tie.spec many-requires any-moving-requires returns)
+moving-spec = tie.close
+    (tie.spec (λ c κs. search needs) (λ c κs. search needs) returns)

@@ -4,27 +4,6 @@ use borrow.Author.Needs.{needs}
 use Rattle.device.proofs.Device.value.Statement.{statement}
 use Rattle.device.proofs.Device.value.Tie as tie
 
-of-count-requires : tie.Need-of-count-requires
-of-count-requires c κs = search needs
-
-enum-told : tie.Need-enum-told
-enum-told c = search needs
-
-enum-told-2 : tie.Need-enum-told-2
-enum-told-2 c = search needs
-
-enum-told-3 : tie.Need-enum-told-3
-enum-told-3 c = search needs
-
-enum-told-4 : tie.Need-enum-told-4
-enum-told-4 c = search needs
-
-enum-told-5 : tie.Need-enum-told-5
-enum-told-5 c = search needs
-
-enum-told-6 : tie.Need-enum-told-6
-enum-told-6 c = search needs
-
 returns : tie.Need-returns
 returns c = search needs
 
@@ -46,17 +25,5 @@ returns-6 c = simp (c .before .before .of-count .ensures, c .enum-told6 .given .
 pub value-spec : {M : Type 1} → statement M
 value-spec =
     tie.close
-    (tie.spec
-    of-count-requires
-    enum-told
-    enum-told-2
-    enum-told-3
-    enum-told-4
-    enum-told-5
-    enum-told-6
-    returns
-    returns-2
-    returns-3
-    returns-4
-    returns-5
-    returns-6)
+    (tie.spec (λ c κs. search needs) (λ c. search needs) (λ c. search needs) (λ c. search needs) (λ c. search needs) (λ c. search needs)
+    (λ c. search needs) returns returns-2 returns-3 returns-4 returns-5 returns-6)

@@ -5,27 +5,6 @@ use borrow.Author.Needs.{needs}
 use Rattle.device.proofs.good.may_be_fresh.Statement.{statement}
 use Rattle.device.proofs.good.may_be_fresh.Tie as tie
 
-device-range-requires : tie.Need-device-range-requires
-device-range-requires c κs = search needs
-
-within-requires : tie.Need-within-requires
-within-requires c κs = search needs
-
-of-count-requires : tie.Need-of-count-requires
-of-count-requires c κs = search needs
-
-device-range-requires-2 : tie.Need-device-range-requires-2
-device-range-requires-2 c κs = search needs
-
-within-requires-2 : tie.Need-within-requires-2
-within-requires-2 c κs = search needs
-
-device-range-requires-3 : tie.Need-device-range-requires-3
-device-range-requires-3 c κs = search needs
-
-within-requires-3 : tie.Need-within-requires-3
-within-requires-3 c κs = search needs
-
 returns : tie.Need-returns
 unfolding mayBeFresh
 returns c =
@@ -42,12 +21,5 @@ returns c =
 pub may-be-fresh-spec : {M : Type 1} → statement M
 may-be-fresh-spec =
     tie.close
-    (tie.spec
-    device-range-requires
-    within-requires
-    of-count-requires
-    device-range-requires-2
-    within-requires-2
-    device-range-requires-3
-    within-requires-3
-    returns)
+    (tie.spec (λ c κs. search needs) (λ c κs. search needs) (λ c κs. search needs) (λ c κs. search needs) (λ c κs. search needs)
+    (λ c κs. search needs) (λ c κs. search needs) returns)

@@ -10,7 +10,7 @@ use Rattle.laws.specs.Lists.{all}
 use Rattle.laws.proofs.Folds.{all-more, all-end, length-part}
 use lib.Seq.{getD-take}
 use Rattle.axis.specs.Good.{goodAxis}
-use Rattle.device.proofs.Parts.{first-axes}
+use Rattle.device.proofs.Stretches.{first-axes}
 use Rattle.device.proofs.walks.all_good.Statement.{statement}
 use Rattle.device.proofs.walks.all_good.Tie as tie
 
@@ -23,23 +23,17 @@ abbrev μ-loop : tie.MeasureT-loop
 four : (c : tie.Start Inv-loop μ-loop) → length (c .args .t1) ≡ 4
 four c = search needs
 
-least-requires : tie.Need-least-requires Inv-loop μ-loop
-least-requires c κs = search needs
-
 loop-holds : tie.Need-loop-holds Inv-loop μ-loop
 loop-holds c = (search needs, refl)
 
 mul-a : tie.Need-mul-a Inv-loop μ-loop
-mul-a c = omega (arith, c .before .before .least .ensures)
+mul-a c = omega (arith, c .before .before .lesser .ensures)
 
 array-copy-out-a : tie.Need-array-copy-out-a Inv-loop μ-loop
-array-copy-out-a c = omega (arith, c .before .before .least .ensures)
-
-good-requires : tie.Need-good-requires Inv-loop μ-loop
-good-requires c κs = search needs
+array-copy-out-a c = omega (arith, c .before .before .lesser .ensures)
 
 add-i : tie.Need-add-i Inv-loop μ-loop
-add-i c = omega (arith, c .before .before .before .before .least .ensures)
+add-i c = omega (arith, c .before .before .before .before .lesser .ensures)
 
 loop-less : tie.Need-loop-less Inv-loop μ-loop
 loop-less c = omega arith
@@ -48,7 +42,7 @@ loop-again : tie.Need-loop-again Inv-loop μ-loop
 loop-again c =
     let s = c .before .before .before .before .before in
     let k = four s in
-    let few = c .before .before .before .before .least in
+    let few = c .before .before .before .before .lesser in
     let l = c .before .before .before .loop in
     let e = few .ensures in
     let p = length-part (s .args .t1) 0 (few .result) (omega arith) in (
@@ -59,26 +53,19 @@ loop-again c =
 
 returns : tie.Need-returns Inv-loop μ-loop
 returns c =
-    let s = c .before .before .before in
-    let few = c .before .before .least in
-    let l = c .before .loop in
+    let loop = c .before in
+    let lesser = loop .before in
+    let s = lesser .before in
+    let few = lesser .lesser in
+    let l = loop .loop in
     let e = few .ensures in
     let k = four s in
     let p = length-part (s .args .t1) 0 (few .result) (omega arith) in
-    all-end goodAxis (take (few .result) (s .args .t1)) (l .i) (l .ok) (omega arith) (l .inv .1) ∙ rw (e, first-axes (s .args .t1) (s .args .n) k)
+    all-end goodAxis (take (few .result) (s .args .t1)) (l .i) (l .ok) (omega arith) (l .inv .1)
+    ∙ rw (e, first-axes (s .args .t1) (s .args .n) k)
 
 pub all-good-spec : {M : Type 1} → statement M
 all-good-spec =
     tie.close
-    (tie.spec
-    Inv-loop
-    μ-loop
-    least-requires
-    loop-holds
-    mul-a
-    array-copy-out-a
-    good-requires
-    add-i
-    loop-less
-    loop-again
+    (tie.spec Inv-loop μ-loop (λ c κs. search needs) loop-holds mul-a array-copy-out-a (λ c κs. search needs) add-i loop-less loop-again
     returns)

@@ -34,9 +34,6 @@ mul-a c = omega arith
 array-copy-out-a : tie.Need-array-copy-out-a Inv-loop μ-loop
 array-copy-out-a c = omega arith
 
-passes-requires : tie.Need-passes-requires Inv-loop μ-loop
-passes-requires c κs = search needs
-
 add-n : tie.Need-add-n Inv-loop μ-loop
 add-n c = omega arith
 
@@ -66,15 +63,4 @@ returns c =
 pub all-pass-spec : {M : Type 1} → statement M
 all-pass-spec =
     tie.close
-    (tie.spec
-    Inv-loop
-    μ-loop
-    loop-holds
-    add-i
-    mul-a
-    array-copy-out-a
-    passes-requires
-    add-n
-    loop-less
-    loop-again
-    returns)
+    (tie.spec Inv-loop μ-loop loop-holds add-i mul-a array-copy-out-a (λ c κs. search needs) add-n loop-less loop-again returns)

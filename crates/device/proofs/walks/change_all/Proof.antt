@@ -32,9 +32,6 @@ mul-a c = omega arith
 array-copy-out-a : tie.Need-array-copy-out-a Inv-loop μ-loop
 array-copy-out-a c = omega arith
 
-changed-requires : tie.Need-changed-requires Inv-loop μ-loop
-changed-requires c κs = search needs
-
 mul-next : tie.Need-mul-next Inv-loop μ-loop
 mul-next c = omega arith
 
@@ -65,17 +62,5 @@ returns c =
 pub change-all-spec : {M : Type 1} → statement M
 change-all-spec =
     tie.close
-    (tie.spec
-    Inv-loop
-    μ-loop
-    loop-holds
-    add-i
-    mul-a
-    array-copy-out-a
-    changed-requires
-    mul-next
-    array-set-from-next
-    add-n
-    loop-less
-    loop-again
-    returns)
+    (tie.spec Inv-loop μ-loop loop-holds add-i mul-a array-copy-out-a (λ c κs. search needs) mul-next array-set-from-next add-n loop-less
+    loop-again returns)

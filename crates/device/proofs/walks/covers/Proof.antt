@@ -1,16 +1,14 @@
--- From the first place of the part on, and before the one behind it.
+-- From the first place of the stretch on, and before the one behind it.
 -- Assumes nothing.
 use Rattle.device.specs.Each.{covers}
 use borrow.Author.Needs.{needs}
 use Rattle.device.proofs.walks.covers.Statement.{statement}
 use Rattle.device.proofs.walks.covers.Tie as tie
 
-add-b : tie.Need-add-b
-add-b c = search needs
-
 returns : tie.Need-returns
 unfolding covers
 returns c = search needs
 
 pub covers-spec : {M : Type 1} → statement M
-covers-spec = tie.close (tie.spec add-b returns)
+covers-spec = tie.close
+    (tie.spec (λ c. search needs) returns)

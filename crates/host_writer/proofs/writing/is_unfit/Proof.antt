@@ -7,18 +7,6 @@ use borrow.Author.Needs.{needs}
 use Rattle.host_writer.proofs.writing.is_unfit.Statement.{statement}
 use Rattle.host_writer.proofs.writing.is_unfit.Tie as tie
 
-enum-known-c : tie.Need-enum-known-c
-enum-known-c c = search needs
-
-read-only-requires : tie.Need-read-only-requires
-read-only-requires c κs = search needs
-
-enum-told : tie.Need-enum-told
-enum-told c = search needs
-
-is-plain-requires : tie.Need-is-plain-requires
-is-plain-requires c κs = search needs
-
 returns : tie.Need-returns
 returns c = rw (c .before .before .c .given .1) (c .read-only .ensures)
 
@@ -31,11 +19,4 @@ returns-3 c = fit (c .before .before .args .c) (c .before .before .args .message
 pub is-unfit-spec : {M : Type 1} → statement M
 is-unfit-spec =
     tie.close
-    (tie.spec
-    enum-known-c
-    read-only-requires
-    enum-told
-    is-plain-requires
-    returns
-    returns-2
-    returns-3)
+    (tie.spec (λ c. search needs) (λ c κs. search needs) (λ c. search needs) (λ c κs. search needs) returns returns-2 returns-3)

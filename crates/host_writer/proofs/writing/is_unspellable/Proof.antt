@@ -5,12 +5,10 @@ use borrow.Author.Needs.{needs}
 use Rattle.host_writer.proofs.writing.is_unspellable.Statement.{statement}
 use Rattle.host_writer.proofs.writing.is_unspellable.Tie as tie
 
-is-unfit-requires : tie.Need-is-unfit-requires
-is-unfit-requires c κs = search needs
-
 returns : tie.Need-returns
 unfolding unspellable
 returns c = rw (c .is-unfit .ensures)
 
 pub is-unspellable-spec : {M : Type 1} → statement M
-is-unspellable-spec = tie.close (tie.spec is-unfit-requires returns)
+is-unspellable-spec = tie.close
+    (tie.spec (λ c κs. search needs) returns)

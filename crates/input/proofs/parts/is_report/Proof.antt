@@ -8,11 +8,9 @@ use Rattle.input.proofs.parts.is_report.Tie as tie
 returns : tie.Need-returns
 returns c = report-none _ (c .if1 .taken)
 
-shared-slice-read-result : tie.Need-shared-slice-read-result
-shared-slice-read-result c = search needs
-
 returns-2 : tie.Need-returns-2
 returns-2 c = report-first _ (c .before .if1 .left)
 
 pub is-report-spec : {M : Type 1} → statement M
-is-report-spec = tie.close (tie.spec returns shared-slice-read-result returns-2)
+is-report-spec = tie.close
+    (tie.spec returns (λ c. search needs) returns-2)

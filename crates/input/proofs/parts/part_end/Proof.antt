@@ -46,14 +46,4 @@ returns-2 c = part-end _ _ (c .loop-test .left) ∙ c .before .loop .inv
 pub part-end-spec : {M : Type 1} → statement M
 part-end-spec =
     tie.close
-    (tie.spec
-    Inv-loop
-    μ-loop
-    loop-holds
-    shared-slice-read-if1
-    add-result
-    returns
-    add-i
-    loop-less
-    loop-again
-    returns-2)
+    (tie.spec Inv-loop μ-loop loop-holds shared-slice-read-if1 add-result returns add-i loop-less loop-again returns-2)

@@ -7,18 +7,6 @@ use borrow.Author.Needs.{needs}
 use Rattle.input.proofs.parts.put_told.Statement.{statement}
 use Rattle.input.proofs.parts.put_told.Tie as tie
 
-put-text-requires : tie.Need-put-text-requires
-put-text-requires c κs = search needs
-
-put-number-requires : tie.Need-put-number-requires
-put-number-requires c κs = search needs
-
-put-byte-requires : tie.Need-put-byte-requires
-put-byte-requires c κs = search needs
-
-same-length : tie.Need-same-length
-same-length c = search needs
-
 returns : tie.Need-returns
 unfolding told text
 returns c =
@@ -28,4 +16,4 @@ returns c =
 pub put-told-spec : {M : Type 1} → statement M
 put-told-spec =
     tie.close
-    (tie.spec put-text-requires put-number-requires put-byte-requires same-length returns)
+    (tie.spec (λ c κs. search needs) (λ c κs. search needs) (λ c κs. search needs) (λ c. search needs) returns)

@@ -14,4 +14,5 @@ unfolding isEnd
 returns-2 c = rw (ne-eqb _ _ (c .if1 .left))
 
 pub is-end-spec : {M : Type 1} → statement M
-is-end-spec = tie.close (tie.spec returns returns-2)
+is-end-spec = tie.close
+    (tie.spec returns returns-2)

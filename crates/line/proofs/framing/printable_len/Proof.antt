@@ -53,15 +53,4 @@ returns-3 c = sym (ended printable _ _ (c .loop-test .left)) ∙ c .before .loop
 pub printable-len-spec : {M : Type 1} → statement M
 printable-len-spec =
     tie.close
-    (tie.spec
-    Inv-loop
-    μ-loop
-    loop-holds
-    shared-slice-read-if1
-    returns
-    shared-slice-read-if2
-    returns-2
-    add-i
-    loop-less
-    loop-again
-    returns-3)
+    (tie.spec Inv-loop μ-loop loop-holds shared-slice-read-if1 returns shared-slice-read-if2 returns-2 add-i loop-less loop-again returns-3)

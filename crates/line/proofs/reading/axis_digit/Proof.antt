@@ -6,12 +6,6 @@ use borrow.Author.Needs.{needs}
 use Rattle.line.proofs.reading.axis_digit.Statement.{statement}
 use Rattle.line.proofs.reading.axis_digit.Tie as tie
 
-shared-slice-read-digit-value : tie.Need-shared-slice-read-digit-value
-shared-slice-read-digit-value c = search needs
-
-digit-value-requires : tie.Need-digit-value-requires
-digit-value-requires c κs = search needs
-
 returns : tie.Need-returns
 returns c = c .digit-value .ensures ∙ axis-one _ (c .before .before .if1 .taken)
 
@@ -20,4 +14,5 @@ returns-2 c = axis-not _ (c .if1 .left)
 
 pub axis-digit-spec : {M : Type 1} → statement M
 axis-digit-spec =
-    tie.close (tie.spec shared-slice-read-digit-value digit-value-requires returns returns-2)
+    tie.close
+    (tie.spec (λ c. search needs) (λ c κs. search needs) returns returns-2)

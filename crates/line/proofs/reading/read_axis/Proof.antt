@@ -6,38 +6,31 @@ use borrow.Author.Needs.{needs}
 use Rattle.line.proofs.reading.read_axis.Statement.{statement}
 use Rattle.line.proofs.reading.read_axis.Tie as tie
 
-first-word-requires : tie.Need-first-word-requires
-first-word-requires c κs = search needs
-
-axis-digit-requires : tie.Need-axis-digit-requires
-axis-digit-requires c κs = search needs
-
-past-word-requires : tie.Need-past-word-requires
-past-word-requires c κs = search needs
-
-read-command-requires : tie.Need-read-command-requires
-read-command-requires c κs = search needs
-
 returns : tie.Need-returns
 unfolding axisOf
 returns c =
-    rw (← c .before .before .before .before .first-word .ensures, ← c .before .before .before .axis-digit .ensures, lt-ltb _ _ (c .before .before .if1 .taken), ← c .before .past-word .ensures .1, ← c .read-command .ensures .0)
-
-read-command-requires-2 : tie.Need-read-command-requires-2
-read-command-requires-2 c κs = search needs
+    let past-word = c .before in
+    let if1 = past-word .before in
+    let axis-digit = if1 .before in
+    let first-word = axis-digit .before in
+    rw (
+      ← first-word .first-word .ensures,
+      ← axis-digit .axis-digit .ensures,
+      lt-ltb _ _ (if1 .if1 .taken),
+      ← past-word .past-word .ensures .1,
+      ← c .read-command .ensures .0,
+    )
 
 returns-2 : tie.Need-returns-2
 unfolding axisOf
-returns-2 c = rw (← c .before .before .before .first-word .ensures, ← c .before .before .axis-digit .ensures, le-ltb _ _ (c .before .if1 .left), ← c .read-command2 .ensures .0)
+returns-2 c =
+    let if1 = c .before in
+    let axis-digit = if1 .before in
+    let first-word = axis-digit .before in
+    rw (← first-word .first-word .ensures, ← axis-digit .axis-digit .ensures, le-ltb _ _ (if1 .if1 .left), ← c .read-command2 .ensures .0)
 
 pub read-axis-spec : {M : Type 1} → statement M
 read-axis-spec =
     tie.close
-    (tie.spec
-    first-word-requires
-    axis-digit-requires
-    past-word-requires
-    read-command-requires
-    returns
-    read-command-requires-2
+    (tie.spec (λ c κs. search needs) (λ c κs. search needs) (λ c κs. search needs) (λ c κs. search needs) returns (λ c κs. search needs)
     returns-2)

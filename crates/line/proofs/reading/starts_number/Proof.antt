@@ -11,37 +11,20 @@ use Rattle.line.proofs.reading.starts_number.Tie as tie
 returns : tie.Need-returns
 returns c = sym (starts-none _ (c .if1 .taken))
 
-shared-slice-read-if2 : tie.Need-shared-slice-read-if2
-shared-slice-read-if2 c = search needs
-
 returns-2 : tie.Need-returns-2
 returns-2 c = sym (starts-plus _ (c .if2 .taken))
-
-shared-slice-read-if3 : tie.Need-shared-slice-read-if3
-shared-slice-read-if3 c = search needs
 
 returns-3 : tie.Need-returns-3
 returns-3 c = sym (starts-minus _ (c .before .before .if2 .left) (c .if3 .taken))
 
-shared-slice-read-digit-value : tie.Need-shared-slice-read-digit-value
-shared-slice-read-digit-value c = search needs
-
-digit-value-requires : tie.Need-digit-value-requires
-digit-value-requires c κs = search needs
-
 returns-4 : tie.Need-returns-4
 returns-4 c =
-    ap (λ (k : ℕ). ltb k 10) (c .digit-value .ensures) ∙ sym (starts-digit _ (c .before .before .before .before .before .before .if1 .left) (c .before .before .before .before .if2 .left) (c .before .before .if3 .left))
+    let if3 = c .before .before in
+    let if2 = if3 .before .before in
+    let if1 = if2 .before .before in
+    ap (λ (k : ℕ). ltb k 10) (c .digit-value .ensures) ∙ sym (starts-digit _ (if1 .if1 .left) (if2 .if2 .left) (if3 .if3 .left))
 
 pub starts-number-spec : {M : Type 1} → statement M
 starts-number-spec =
     tie.close
-    (tie.spec
-    returns
-    shared-slice-read-if2
-    returns-2
-    shared-slice-read-if3
-    returns-3
-    shared-slice-read-digit-value
-    digit-value-requires
-    returns-4)
+    (tie.spec returns (λ c. search needs) returns-2 (λ c. search needs) returns-3 (λ c. search needs) (λ c κs. search needs) returns-4)

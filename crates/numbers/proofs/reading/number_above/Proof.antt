@@ -15,12 +15,6 @@ use Rattle.numbers.proofs.reading.number_above.Tie as tie
 far : (c : tie.After-known-told2) → c .before .m2 .given .0 .0 ≤ 2147483647
 far c = at-most _ (c .before .before .before .pre) (c .before .m2 .given .1)
 
-enum-known-m : tie.Need-enum-known-m
-enum-known-m c = search needs
-
-enum-known-m-2 : tie.Need-enum-known-m-2
-enum-known-m-2 c = search needs
-
 cast-t5 : tie.Need-cast-t5
 cast-t5 c = sign.above-fits w32 (omega (arith, far c))
 
@@ -31,4 +25,5 @@ returns-2 : tie.Need-returns-2
 returns-2 c = rw (sign.above-read (c .before .m2 .given .0 .0) (far c)) (sym (ap above (c .before .m2 .given .1)))
 
 pub number-above-spec : {M : Type 1} → statement M
-number-above-spec = tie.close (tie.spec enum-known-m enum-known-m-2 cast-t5 returns returns-2)
+number-above-spec = tie.close
+    (tie.spec (λ c. search needs) (λ c. search needs) cast-t5 returns returns-2)

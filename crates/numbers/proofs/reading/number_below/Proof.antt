@@ -15,12 +15,6 @@ use Rattle.numbers.proofs.reading.number_below.Tie as tie
 far : (c : tie.After-known-told2) → c .before .m2 .given .0 .0 ≤ 2147483648
 far c = at-most _ (c .before .before .before .pre) (c .before .m2 .given .1)
 
-enum-known-m : tie.Need-enum-known-m
-enum-known-m c = search needs
-
-enum-known-m-2 : tie.Need-enum-known-m-2
-enum-known-m-2 c = search needs
-
 cast-v : tie.Need-cast-v
 cast-v c = sign.above-fits w64 (omega (arith, far c))
 
@@ -38,4 +32,5 @@ returns-2 c = rw (sign.cut-read (c .before .m2 .given .0 .0) (far c)) (sym (ap b
 
 pub number-below-spec : {M : Type 1} → statement M
 number-below-spec =
-    tie.close (tie.spec enum-known-m enum-known-m-2 cast-v sub-t6 cast-t7 returns returns-2)
+    tie.close
+    (tie.spec (λ c. search needs) (λ c. search needs) cast-v sub-t6 cast-t7 returns returns-2)

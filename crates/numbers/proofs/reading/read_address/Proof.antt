@@ -5,12 +5,10 @@ use borrow.Author.Needs.{needs}
 use Rattle.numbers.proofs.reading.read_address.Statement.{statement}
 use Rattle.numbers.proofs.reading.read_address.Tie as tie
 
-unsigned-requires : tie.Need-unsigned-requires
-unsigned-requires c κs = search needs
-
 returns : tie.Need-returns
 unfolding readAddress
 returns c = c .unsigned .ensures
 
 pub read-address-spec : {M : Type 1} → statement M
-read-address-spec = tie.close (tie.spec unsigned-requires returns)
+read-address-spec = tie.close
+    (tie.spec (λ c κs. search needs) returns)

@@ -4,42 +4,6 @@ use borrow.Author.Needs.{needs}
 use Rattle.phrase.proofs.Numbered.with.Statement.{statement}
 use Rattle.phrase.proofs.Numbered.with.Tie as tie
 
-enum-told : tie.Need-enum-told
-enum-told c = search needs
-
-position-requires : tie.Need-position-requires
-position-requires c κs = search needs
-
-enum-told-2 : tie.Need-enum-told-2
-enum-told-2 c = search needs
-
-position-requires-2 : tie.Need-position-requires-2
-position-requires-2 c κs = search needs
-
-enum-told-3 : tie.Need-enum-told-3
-enum-told-3 c = search needs
-
-speed-requires : tie.Need-speed-requires
-speed-requires c κs = search needs
-
-enum-told-4 : tie.Need-enum-told-4
-enum-told-4 c = search needs
-
-enum-known-self : tie.Need-enum-known-self
-enum-known-self c = search needs
-
-enum-told-5 : tie.Need-enum-told-5
-enum-told-5 c = search needs
-
-enum-known-self-2 : tie.Need-enum-known-self-2
-enum-known-self-2 c = search needs
-
-position-requires-3 : tie.Need-position-requires-3
-position-requires-3 c κs = search needs
-
-enum-told-6 : tie.Need-enum-told-6
-enum-told-6 c = search needs
-
 returns : tie.Need-returns
 returns c = simp (c .position .ensures, c .before .enum-told .given .1)
 
@@ -67,24 +31,6 @@ returns-8 c = simp (c .enum-told6 .given .1)
 pub with-spec : {M : Type 1} → statement M
 with-spec =
     tie.close
-    (tie.spec
-    enum-told
-    position-requires
-    enum-told-2
-    position-requires-2
-    enum-told-3
-    speed-requires
-    enum-told-4
-    enum-known-self
-    enum-told-5
-    enum-known-self-2
-    position-requires-3
-    enum-told-6
-    returns
-    returns-2
-    returns-3
-    returns-4
-    returns-5
-    returns-6
-    returns-7
-    returns-8)
+    (tie.spec (λ c. search needs) (λ c κs. search needs) (λ c. search needs) (λ c κs. search needs) (λ c. search needs)
+    (λ c κs. search needs) (λ c. search needs) (λ c. search needs) (λ c. search needs) (λ c. search needs) (λ c κs. search needs)
+    (λ c. search needs) returns returns-2 returns-3 returns-4 returns-5 returns-6 returns-7 returns-8)

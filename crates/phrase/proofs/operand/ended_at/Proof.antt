@@ -6,14 +6,18 @@ use borrow.Author.Needs.{needs}
 use Rattle.phrase.proofs.operand.ended_at.Statement.{statement}
 use Rattle.phrase.proofs.operand.ended_at.Tie as tie
 
-first-word-requires : tie.Need-first-word-requires
-first-word-requires c κs = search needs
-
 returns : tie.Need-returns
-returns c = let a = c .before .before .before .args in ended-yes (drop (a .at) (a .s .now)) _ (c .before .first-word .ensures) _ (c .if1 .taken)
+returns c =
+    let first-word = c .before in
+    let start = first-word .before .before in
+    let a = start .args in ended-yes (drop (a .at) (a .s .now)) _ (first-word .first-word .ensures) _ (c .if1 .taken)
 
 returns-2 : tie.Need-returns-2
-returns-2 c = let a = c .before .before .before .args in ended-not (drop (a .at) (a .s .now)) _ (c .before .first-word .ensures) _ (c .if1 .left)
+returns-2 c =
+    let first-word = c .before in
+    let start = first-word .before .before in
+    let a = start .args in ended-not (drop (a .at) (a .s .now)) _ (first-word .first-word .ensures) _ (c .if1 .left)
 
 pub ended-at-spec : {M : Type 1} → statement M
-ended-at-spec = tie.close (tie.spec first-word-requires returns returns-2)
+ended-at-spec = tie.close
+    (tie.spec (λ c κs. search needs) returns returns-2)

@@ -11,19 +11,11 @@ use borrow.Author.Needs.{needs}
 use Rattle.phrase.proofs.operand.read_setting.Statement.{statement}
 use Rattle.phrase.proofs.operand.read_setting.Tie as tie
 
-slice-aggregate-find-word : tie.Need-slice-aggregate-find-word
-slice-aggregate-find-word c = search needs
-
-find-word-requires : tie.Need-find-word-requires
-find-word-requires c κs = search needs
-
-setting-at-requires : tie.Need-setting-at-requires
-setting-at-requires c κs = search needs
-
 returns : tie.Need-returns
 unfolding readSetting nameOf cut isSpace noSpace grow text
 returns c = c .setting-at .ensures ∙ meaning-at Unknown _ names _ (c .before .find-word .ensures)
 
 pub read-setting-spec : {M : Type 1} → statement M
 read-setting-spec =
-    tie.close (tie.spec slice-aggregate-find-word find-word-requires setting-at-requires returns)
+    tie.close
+    (tie.spec (λ c. search needs) (λ c κs. search needs) (λ c κs. search needs) returns)

@@ -7,30 +7,6 @@ use borrow.Author.Needs.{needs}
 use Rattle.phrase.proofs.reading.first_at.Statement.{statement}
 use Rattle.phrase.proofs.reading.first_at.Tie as tie
 
-ended-at-requires : tie.Need-ended-at-requires
-ended-at-requires c κs = search needs
-
-ended-at-requires-2 : tie.Need-ended-at-requires-2
-ended-at-requires-2 c κs = search needs
-
-ended-at-requires-3 : tie.Need-ended-at-requires-3
-ended-at-requires-3 c κs = search needs
-
-read-move-requires : tie.Need-read-move-requires
-read-move-requires c κs = search needs
-
-read-get-requires : tie.Need-read-get-requires
-read-get-requires c κs = search needs
-
-read-set-requires : tie.Need-read-set-requires
-read-set-requires c κs = search needs
-
-read-tools-requires : tie.Need-read-tools-requires
-read-tools-requires c κs = search needs
-
-read-warnings-requires : tie.Need-read-warnings-requires
-read-warnings-requires c κs = search needs
-
 returns : tie.Need-returns
 returns c = rw (c .before .match .keys1) (c .ended-at .ensures)
 
@@ -61,21 +37,6 @@ returns-9 c = past-table _ (firsts _) _ (beyond 8 (c .before .before .args .k) (
 pub first-at-spec : {M : Type 1} → statement M
 first-at-spec =
     tie.close
-    (tie.spec
-    ended-at-requires
-    ended-at-requires-2
-    ended-at-requires-3
-    read-move-requires
-    read-get-requires
-    read-set-requires
-    read-tools-requires
-    read-warnings-requires
-    returns
-    returns-2
-    returns-3
-    returns-4
-    returns-5
-    returns-6
-    returns-7
-    returns-8
-    returns-9)
+    (tie.spec (λ c κs. search needs) (λ c κs. search needs) (λ c κs. search needs) (λ c κs. search needs) (λ c κs. search needs)
+    (λ c κs. search needs) (λ c κs. search needs) (λ c κs. search needs) returns returns-2 returns-3 returns-4 returns-5 returns-6 returns-7
+    returns-8 returns-9)

@@ -8,23 +8,11 @@ use borrow.Author.Needs.{needs}
 use Rattle.phrase.proofs.reading.read_warnings.Statement.{statement}
 use Rattle.phrase.proofs.reading.read_warnings.Tie as tie
 
-first-word-requires : tie.Need-first-word-requires
-first-word-requires c κs = search needs
-
 returns : tie.Need-returns
-returns c = let a = c .before .before .before .args in warnings-alone (drop (a .at) (a .s .now)) _ (c .before .first-word .ensures) (c .if1 .taken)
-
-slice-aggregate-same-bytes : tie.Need-slice-aggregate-same-bytes
-slice-aggregate-same-bytes c = search needs
-
-same-bytes-requires : tie.Need-same-bytes-requires
-same-bytes-requires c κs = search needs
-
-past-word-requires : tie.Need-past-word-requires
-past-word-requires c κs = search needs
-
-ended-at-requires : tie.Need-ended-at-requires
-ended-at-requires c κs = search needs
+returns c =
+    let first-word = c .before in
+    let start = first-word .before .before in
+    let a = start .args in warnings-alone (drop (a .at) (a .s .now)) _ (first-word .first-word .ensures) (c .if1 .taken)
 
 returns-2 : tie.Need-returns-2
 unfolding text
@@ -37,18 +25,16 @@ returns-2 c =
 returns-3 : tie.Need-returns-3
 unfolding text
 returns-3 c =
-    let a = c .before .before .before .before .before .before .args in
-    warnings-other (drop (a .at) (a .s .now)) _ (c .before .before .before .before .first-word .ensures) (c .before .before .before .if1 .left) (sym (c .before .same-bytes .ensures) ∙ c .if2 .left)
+    let same-bytes = c .before in
+    let if1 = same-bytes .before .before in
+    let first-word = if1 .before in
+    let start = first-word .before .before in
+    let a = start .args in
+    warnings-other (drop (a .at) (a .s .now)) _ (first-word .first-word .ensures) (if1 .if1 .left)
+    (sym (same-bytes .same-bytes .ensures) ∙ c .if2 .left)
 
 pub read-warnings-spec : {M : Type 1} → statement M
 read-warnings-spec =
     tie.close
-    (tie.spec
-    first-word-requires
-    returns
-    slice-aggregate-same-bytes
-    same-bytes-requires
-    past-word-requires
-    ended-at-requires
-    returns-2
-    returns-3)
+    (tie.spec (λ c κs. search needs) returns (λ c. search needs) (λ c κs. search needs) (λ c κs. search needs) (λ c κs. search needs)
+    returns-2 returns-3)

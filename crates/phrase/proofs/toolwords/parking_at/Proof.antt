@@ -7,15 +7,6 @@ use borrow.Author.Needs.{needs}
 use Rattle.phrase.proofs.toolwords.parking_at.Statement.{statement}
 use Rattle.phrase.proofs.toolwords.parking_at.Tie as tie
 
-ended-at-requires : tie.Need-ended-at-requires
-ended-at-requires c κs = search needs
-
-ended-at-requires-2 : tie.Need-ended-at-requires-2
-ended-at-requires-2 c κs = search needs
-
-ended-at-requires-3 : tie.Need-ended-at-requires-3
-ended-at-requires-3 c κs = search needs
-
 returns : tie.Need-returns
 returns c = rw (c .before .match .keys1) (c .ended-at .ensures)
 
@@ -31,11 +22,4 @@ returns-4 c = past-table _ (parkings _) _ (beyond 3 (c .before .before .args .k)
 pub parking-at-spec : {M : Type 1} → statement M
 parking-at-spec =
     tie.close
-    (tie.spec
-    ended-at-requires
-    ended-at-requires-2
-    ended-at-requires-3
-    returns
-    returns-2
-    returns-3
-    returns-4)
+    (tie.spec (λ c κs. search needs) (λ c κs. search needs) (λ c κs. search needs) returns returns-2 returns-3 returns-4)

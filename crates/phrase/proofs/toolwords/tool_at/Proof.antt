@@ -7,12 +7,6 @@ use borrow.Author.Needs.{needs}
 use Rattle.phrase.proofs.toolwords.tool_at.Statement.{statement}
 use Rattle.phrase.proofs.toolwords.tool_at.Tie as tie
 
-read-storepos-requires : tie.Need-read-storepos-requires
-read-storepos-requires c κs = search needs
-
-read-parking-requires : tie.Need-read-parking-requires
-read-parking-requires c κs = search needs
-
 returns : tie.Need-returns
 returns c = rw (c .before .match .keys1) (c .read-storepos .ensures)
 
@@ -28,4 +22,4 @@ returns-4 c = past-table _ (tools _) _ (beyond 3 (c .before .before .args .k) (c
 pub tool-at-spec : {M : Type 1} → statement M
 tool-at-spec =
     tie.close
-    (tie.spec read-storepos-requires read-parking-requires returns returns-2 returns-3 returns-4)
+    (tie.spec (λ c κs. search needs) (λ c κs. search needs) returns returns-2 returns-3 returns-4)

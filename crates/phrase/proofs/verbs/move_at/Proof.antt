@@ -7,24 +7,6 @@ use borrow.Author.Needs.{needs}
 use Rattle.phrase.proofs.verbs.move_at.Statement.{statement}
 use Rattle.phrase.proofs.verbs.move_at.Tie as tie
 
-one-number-requires : tie.Need-one-number-requires
-one-number-requires c κs = search needs
-
-one-number-requires-2 : tie.Need-one-number-requires-2
-one-number-requires-2 c κs = search needs
-
-one-number-requires-3 : tie.Need-one-number-requires-3
-one-number-requires-3 c κs = search needs
-
-ended-at-requires : tie.Need-ended-at-requires
-ended-at-requires c κs = search needs
-
-ended-at-requires-2 : tie.Need-ended-at-requires-2
-ended-at-requires-2 c κs = search needs
-
-one-number-requires-4 : tie.Need-one-number-requires-4
-one-number-requires-4 c κs = search needs
-
 returns : tie.Need-returns
 returns c = rw (c .before .match .keys1) (c .one-number .ensures)
 
@@ -49,17 +31,5 @@ returns-7 c = past-table _ (moves _) _ (beyond 6 (c .before .before .args .k) (c
 pub move-at-spec : {M : Type 1} → statement M
 move-at-spec =
     tie.close
-    (tie.spec
-    one-number-requires
-    one-number-requires-2
-    one-number-requires-3
-    ended-at-requires
-    ended-at-requires-2
-    one-number-requires-4
-    returns
-    returns-2
-    returns-3
-    returns-4
-    returns-5
-    returns-6
-    returns-7)
+    (tie.spec (λ c κs. search needs) (λ c κs. search needs) (λ c κs. search needs) (λ c κs. search needs) (λ c κs. search needs)
+    (λ c κs. search needs) returns returns-2 returns-3 returns-4 returns-5 returns-6 returns-7)

@@ -5,23 +5,15 @@ use borrow.Author.Needs.{needs}
 use Rattle.phrase.proofs.verbs.read_set.Statement.{statement}
 use Rattle.phrase.proofs.verbs.read_set.Tie as tie
 
-first-word-requires : tie.Need-first-word-requires
-first-word-requires c κs = search needs
-
-read-setting-requires : tie.Need-read-setting-requires
-read-setting-requires c κs = search needs
-
-past-word-requires : tie.Need-past-word-requires
-past-word-requires c κs = search needs
-
-set-of-requires : tie.Need-set-of-requires
-set-of-requires c κs = search needs
-
 returns : tie.Need-returns
 unfolding readSet
-returns c = rw (← c .before .before .before .first-word .ensures, ← c .before .past-word .ensures .1, ← c .before .before .read-setting .ensures) (c .set-of .ensures)
+returns c =
+    let past-word = c .before in
+    let read-setting = past-word .before in
+    let first-word = read-setting .before in
+    rw (← first-word .first-word .ensures, ← past-word .past-word .ensures .1, ← read-setting .read-setting .ensures) (c .set-of .ensures)
 
 pub read-set-spec : {M : Type 1} → statement M
 read-set-spec =
     tie.close
-    (tie.spec first-word-requires read-setting-requires past-word-requires set-of-requires returns)
+    (tie.spec (λ c κs. search needs) (λ c κs. search needs) (λ c κs. search needs) (λ c κs. search needs) returns)

@@ -20,60 +20,54 @@ Inv-loop buf₀ at s from next₀ place₀ left₀ buf next place left =
 abbrev μ-loop : tie.MeasureT-loop
 μ-loop buf₀ at s from next₀ place₀ left₀ buf next place left = left
 
-first-word-requires : tie.Need-first-word-requires Inv-loop μ-loop
-first-word-requires c κs = search needs
-
-put-byte-requires : tie.Need-put-byte-requires Inv-loop μ-loop
-put-byte-requires c κs = search needs
-
-same-length : tie.Need-same-length Inv-loop μ-loop
-same-length c = search needs
-
 returns : tie.Need-returns Inv-loop μ-loop
 unfolding text
 returns c =
     let first = c .before .before .before .before in
     rw (echo-none _ _ (first .before .first-word .ensures) (first .if1 .taken)) (c .before .before .put-byte .ensures)
 
-put-text-requires : tie.Need-put-text-requires Inv-loop μ-loop
-put-text-requires c κs = search needs
-
-past-word-requires : tie.Need-past-word-requires Inv-loop μ-loop
-past-word-requires c κs = search needs
-
 loop-holds : tie.Need-loop-holds Inv-loop μ-loop
 loop-holds c = writing-first _ _ _
-
-first-word-requires-2 : tie.Need-first-word-requires-2 Inv-loop μ-loop
-first-word-requires-2 c κs = search needs
-
-put-word-requires : tie.Need-put-word-requires Inv-loop μ-loop
-put-word-requires c κs = search needs
-
-past-word-requires-2 : tie.Need-past-word-requires-2 Inv-loop μ-loop
-past-word-requires-2 c κs = search needs
 
 sub-left : tie.Need-sub-left Inv-loop μ-loop
 sub-left c =
     let turn = c .before .before .before .before .before .before in
-    omega (arith, echo-more (turn .before .loop .left) (turn .before .loop .place) (length (turn .before .before .before .before .before .before .before .before .before .before .before .args .s .now)) (turn .loop-test .taken))
+    omega (
+      arith,
+      echo-more (turn .before .loop .left) (turn .before .loop .place)
+          (length (turn .before .before .before .before .before .before .before .before .before .before .before .args .s .now))
+          (turn .loop-test .taken),
+    )
 
 loop-less : tie.Need-loop-less Inv-loop μ-loop
 loop-less c =
     let turn = c .before .before .before .before .before .before in
-    omega (arith, echo-more (turn .before .loop .left) (turn .before .loop .place) (length (turn .before .before .before .before .before .before .before .before .before .before .before .args .s .now)) (turn .loop-test .taken))
+    omega (
+      arith,
+      echo-more (turn .before .loop .left) (turn .before .loop .place)
+          (length (turn .before .before .before .before .before .before .before .before .before .before .before .args .s .now))
+          (turn .loop-test .taken),
+    )
 
 loop-again : tie.Need-loop-again Inv-loop μ-loop
 loop-again c =
     let word = c .before .before .before in
     let turn = word .before .before .before in
-    echo-turn _ _ _ (word .before .first-word2 .ensures) (c .past-word2 .ensures .1) _ (echo-more (turn .before .loop .left) (turn .before .loop .place) (length (turn .before .before .before .before .before .before .before .before .before .before .before .args .s .now)) (turn .loop-test .taken)) (turn .before .loop .inv) (word .put-word .ensures)
+    echo-turn _ _ _ (word .before .first-word2 .ensures) (c .past-word2 .ensures .1) _
+    (echo-more (turn .before .loop .left) (turn .before .loop .place)
+    (length (turn .before .before .before .before .before .before .before .before .before .before .before .args .s .now))
+    (turn .loop-test .taken)) (turn .before .loop .inv) (word .put-word .ensures)
 
 returns-2 : tie.Need-returns-2 Inv-loop μ-loop
 returns-2 c =
-    let text = c .before .before .before .before .before in
-    rw (echo-some _ _ _ (text .before .before .before .first-word .ensures) (c .before .before .past-word .ensures .1) (text .before .before .if1 .left))
-    (text .put-text .ensures ▸ writing-end (rw (echo-end (c .before .before .before .before .before .before .before .before .before .before .before .args .s .now) (c .before .loop .left) (c .before .loop .place) (c .loop-test .left)) at (c .before .loop .inv)))
+    let loop = c .before in
+    let past-word = loop .before in
+    let text = past-word .before .before .before in
+    let start = text .before .before .before .before .before .before in
+    rw (echo-some _ _ _ (text .before .before .before .first-word .ensures) (past-word .past-word .ensures .1)
+    (text .before .before .if1 .left))
+    (text .put-text .ensures ▸ writing-end (rw (echo-end (start .args .s .now) (loop .loop .left) (loop .loop .place) (c .loop-test .left))
+    at (loop .loop .inv)))
 
 same-length-2 : tie.Need-same-length-2 Inv-loop μ-loop
 same-length-2 c = wrote-length (returns-2 c)
@@ -81,21 +75,6 @@ same-length-2 c = wrote-length (returns-2 c)
 pub put-echo-spec : {M : Type 1} → statement M
 put-echo-spec =
     tie.close
-    (tie.spec
-    Inv-loop
-    μ-loop
-    first-word-requires
-    put-byte-requires
-    same-length
-    returns
-    put-text-requires
-    past-word-requires
-    loop-holds
-    first-word-requires-2
-    put-word-requires
-    past-word-requires-2
-    sub-left
-    loop-less
-    loop-again
-    same-length-2
-    returns-2)
+    (tie.spec Inv-loop μ-loop (λ c κs. search needs) (λ c κs. search needs) (λ c. search needs) returns (λ c κs. search needs)
+    (λ c κs. search needs) loop-holds (λ c κs. search needs) (λ c κs. search needs) (λ c κs. search needs) sub-left loop-less loop-again
+    same-length-2 returns-2)

@@ -1,19 +1,10 @@
 -- `reply::data::put_if` meets its contract: a space and a name, or nothing.
 -- Assumes nothing.
 use Rattle.buffer.proofs.Wrote.{_▸_, wrote-none}
-use Rattle.reply.proofs.Parts.{name-yes, name-no}
+use Rattle.reply.proofs.Pieces.{name-yes, name-no}
 use borrow.Author.Needs.{needs}
 use Rattle.reply.proofs.data.put_if.Statement.{statement}
 use Rattle.reply.proofs.data.put_if.Tie as tie
-
-put-byte-requires : tie.Need-put-byte-requires
-put-byte-requires c κs = search needs
-
-put-warning-requires : tie.Need-put-warning-requires
-put-warning-requires c κs = search needs
-
-same-length : tie.Need-same-length
-same-length c = search needs
 
 returns : tie.Need-returns
 returns c =
@@ -26,4 +17,5 @@ returns-2 c = rw (name-no _ _ (c .if1 .left)) (wrote-none _ _)
 
 pub put-if-spec : {M : Type 1} → statement M
 put-if-spec =
-    tie.close (tie.spec put-byte-requires put-warning-requires same-length returns returns-2)
+    tie.close
+    (tie.spec (λ c κs. search needs) (λ c κs. search needs) (λ c. search needs) returns returns-2)

@@ -3,28 +3,13 @@
 use mathlib.Core.Path.{sym, _∙_}
 use Rattle.laws.specs.Text.{text}
 use Rattle.buffer.proofs.Wrote.{wrote-none}
-use Rattle.reply.proofs.Parts.{refusal-none, refusal-word}
+use Rattle.reply.proofs.Pieces.{refusal-none, refusal-word}
 use borrow.Author.Needs.{needs}
 use Rattle.reply.proofs.data.put_refusal.Statement.{statement}
 use Rattle.reply.proofs.data.put_refusal.Tie as tie
 
 returns : tie.Need-returns
 returns c = rw (refusal-none _ (c .if1 .taken)) (wrote-none _ _)
-
-sub-k : tie.Need-sub-k
-sub-k c = search needs
-
-slice-aggregate-nth-word : tie.Need-slice-aggregate-nth-word
-slice-aggregate-nth-word c = search needs
-
-nth-word-requires : tie.Need-nth-word-requires
-nth-word-requires c κs = search needs
-
-put-text-requires : tie.Need-put-text-requires
-put-text-requires c κs = search needs
-
-same-length : tie.Need-same-length
-same-length c = search needs
 
 returns-2 : tie.Need-returns-2
 unfolding text
@@ -35,11 +20,4 @@ returns-2 c =
 pub put-refusal-spec : {M : Type 1} → statement M
 put-refusal-spec =
     tie.close
-    (tie.spec
-    returns
-    sub-k
-    slice-aggregate-nth-word
-    nth-word-requires
-    put-text-requires
-    same-length
-    returns-2)
+    (tie.spec returns (λ c. search needs) (λ c. search needs) (λ c κs. search needs) (λ c κs. search needs) (λ c. search needs) returns-2)

@@ -19,20 +19,8 @@ Inv-loop buf₀ at m next₀ left₀ i₀ buf next left i =
 abbrev μ-loop : tie.MeasureT-loop
 μ-loop buf₀ at m next₀ left₀ i₀ buf next left i = 8 - i
 
-number-requires : tie.Need-number-requires Inv-loop μ-loop
-number-requires c κs = search needs
-
-cast-put-two : tie.Need-cast-put-two Inv-loop μ-loop
-cast-put-two c = search needs
-
-put-two-requires : tie.Need-put-two-requires Inv-loop μ-loop
-put-two-requires c κs = search needs
-
 loop-holds : tie.Need-loop-holds Inv-loop μ-loop
 loop-holds c = (omega arith, writing-first _ _ _)
-
-put-if-requires : tie.Need-put-if-requires Inv-loop μ-loop
-put-if-requires c κs = search needs
 
 add-i : tie.Need-add-i Inv-loop μ-loop
 add-i c = omega arith
@@ -58,16 +46,5 @@ same-length c = wrote-length (returns c)
 pub put-warnings-spec : {M : Type 1} → statement M
 put-warnings-spec =
     tie.close
-    (tie.spec
-    Inv-loop
-    μ-loop
-    number-requires
-    cast-put-two
-    put-two-requires
-    loop-holds
-    put-if-requires
-    add-i
-    loop-less
-    loop-again
-    same-length
-    returns)
+    (tie.spec Inv-loop μ-loop (λ c κs. search needs) (λ c. search needs) (λ c κs. search needs) loop-holds (λ c κs. search needs) add-i
+    loop-less loop-again same-length returns)

@@ -1,22 +1,13 @@
 -- `reply::data::put_word` meets its contract: a space and the word, or nothing.
 -- Assumes nothing.
 use Rattle.buffer.proofs.Wrote.{_▸_, wrote-none}
-use Rattle.reply.proofs.Parts.{word-yes, word-no}
+use Rattle.reply.proofs.Pieces.{word-yes, word-no}
 use borrow.Author.Needs.{needs}
 use Rattle.reply.proofs.data.put_word.Statement.{statement}
 use Rattle.reply.proofs.data.put_word.Tie as tie
 
-put-byte-requires : tie.Need-put-byte-requires
-put-byte-requires c κs = search needs
-
-put-text-requires : tie.Need-put-text-requires
-put-text-requires c κs = search needs
-
 returns : tie.Need-returns
 returns c = rw (word-no _ (c .if1 .taken)) (wrote-none _ _)
-
-same-length : tie.Need-same-length
-same-length c = search needs
 
 returns-2 : tie.Need-returns-2
 returns-2 c =
@@ -26,4 +17,5 @@ returns-2 c =
 
 pub put-word-spec : {M : Type 1} → statement M
 put-word-spec =
-    tie.close (tie.spec put-byte-requires put-text-requires returns same-length returns-2)
+    tie.close
+    (tie.spec (λ c κs. search needs) (λ c κs. search needs) returns (λ c. search needs) returns-2)

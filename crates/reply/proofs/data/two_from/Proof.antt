@@ -7,18 +7,6 @@ use borrow.Author.Needs.{needs}
 use Rattle.reply.proofs.data.two_from.Statement.{statement}
 use Rattle.reply.proofs.data.two_from.Tie as tie
 
-add-end : tie.Need-add-end
-add-end c = search needs
-
-sub-result : tie.Need-sub-result
-sub-result c = search needs
-
-part-result-start : tie.Need-part-result-start
-part-result-start c = search needs
-
-part-result-end : tie.Need-part-result-end
-part-result-end c = search needs
-
 returns : tie.Need-returns
 returns c =
     let start = c .before .args .start in
@@ -26,4 +14,5 @@ returns c =
     rw two
 
 pub two-from-spec : {M : Type 1} → statement M
-two-from-spec = tie.close (tie.spec add-end sub-result part-result-start part-result-end returns)
+two-from-spec = tie.close
+    (tie.spec (λ c. search needs) (λ c. search needs) (λ c. search needs) (λ c. search needs) returns)

@@ -7,15 +7,6 @@ use borrow.Author.Needs.{needs}
 use Rattle.rules.proofs.effects.next.Statement.{statement}
 use Rattle.rules.proofs.effects.next.Tie as tie
 
-only-shows-requires : tie.Need-only-shows-requires
-only-shows-requires c κs = search needs
-
-change-requires : tie.Need-change-requires
-change-requires c κs = search needs
-
-after-requires : tie.Need-after-requires
-after-requires c κs = search needs
-
 returns : tie.Need-returns
 returns c = sym (shows-same _ _ _ (sym (c .before .only-shows .ensures) ∙ c .if1 .taken))
 
@@ -24,4 +15,5 @@ unfolding next
 returns-2 c = simp (c .after .ensures, c .before .change .ensures)
 
 pub next-spec : {M : Type 1} → statement M
-next-spec = tie.close (tie.spec only-shows-requires change-requires after-requires returns returns-2)
+next-spec = tie.close
+    (tie.spec (λ c κs. search needs) (λ c κs. search needs) (λ c κs. search needs) returns returns-2)

@@ -8,12 +8,6 @@ use borrow.Author.Needs.{needs}
 use Rattle.rules.proofs.effects.obey.Statement.{statement}
 use Rattle.rules.proofs.effects.obey.Tie as tie
 
-refusal-requires : tie.Need-refusal-requires
-refusal-requires c κs = search needs
-
-next-requires : tie.Need-next-requires
-next-requires c κs = search needs
-
 returns : tie.Need-returns
 unfolding obey
 returns c = simp (c .next .ensures, sym (c .before .before .refusal .ensures) ∙ c .before .if1 .taken)
@@ -25,4 +19,4 @@ returns-2 c = simp (c .before .refusal .ensures, simp (c .before .refusal .ensur
 pub obey-spec : {M : Type 1} → statement M
 obey-spec =
     tie.close
-    (tie.spec refusal-requires next-requires returns returns-2)
+    (tie.spec (λ c κs. search needs) (λ c κs. search needs) returns returns-2)

@@ -4,15 +4,6 @@ use borrow.Author.Needs.{needs}
 use Rattle.rules.proofs.effects.put_setting.Statement.{statement}
 use Rattle.rules.proofs.effects.put_setting.Tie as tie
 
-enum-told : tie.Need-enum-told
-enum-told c = search needs
-
-enum-known-s : tie.Need-enum-known-s
-enum-known-s c = search needs
-
-put-requires : tie.Need-put-requires
-put-requires c κs = search needs
-
 returns : tie.Need-returns
 returns c = search needs
 
@@ -20,4 +11,5 @@ returns-2 : tie.Need-returns-2
 returns-2 c = simp (c .put .ensures, c .before .before .s .given .1)
 
 pub put-setting-spec : {M : Type 1} → statement M
-put-setting-spec = tie.close (tie.spec enum-told enum-known-s put-requires returns returns-2)
+put-setting-spec = tie.close
+    (tie.spec (λ c. search needs) (λ c. search needs) (λ c κs. search needs) returns returns-2)

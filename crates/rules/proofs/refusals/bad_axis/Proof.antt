@@ -6,12 +6,10 @@ use borrow.Author.Needs.{needs}
 use Rattle.rules.proofs.refusals.bad_axis.Statement.{statement}
 use Rattle.rules.proofs.refusals.bad_axis.Tie as tie
 
-cast-n : tie.Need-cast-n
-cast-n c = search needs
-
 returns : tie.Need-returns
 unfolding badAxis
 returns c = refl
 
 pub bad-axis-spec : {M : Type 1} → statement M
-bad-axis-spec = tie.close (tie.spec cast-n returns)
+bad-axis-spec = tie.close
+    (tie.spec (λ c. search needs) returns)

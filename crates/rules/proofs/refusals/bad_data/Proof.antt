@@ -7,18 +7,13 @@ use borrow.Author.Needs.{needs}
 use Rattle.rules.proofs.refusals.bad_data.Statement.{statement}
 use Rattle.rules.proofs.refusals.bad_data.Tie as tie
 
-only-shows-requires : tie.Need-only-shows-requires
-only-shows-requires c κs = search needs
-
 returns : tie.Need-returns
 returns c = sym (shows-permitted _ _ _ (sym (c .before .only-shows .ensures) ∙ c .if1 .taken))
-
-each-requires : tie.Need-each-requires
-each-requires c κs = search needs
 
 returns-2 : tie.Need-returns-2
 unfolding badData
 returns-2 c = simp (c .each .ensures)
 
 pub bad-data-spec : {M : Type 1} → statement M
-bad-data-spec = tie.close (tie.spec only-shows-requires returns each-requires returns-2)
+bad-data-spec = tie.close
+    (tie.spec (λ c κs. search needs) returns (λ c κs. search needs) returns-2)

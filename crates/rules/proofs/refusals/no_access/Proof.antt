@@ -5,18 +5,10 @@ use borrow.Author.Needs.{needs}
 use Rattle.rules.proofs.refusals.no_access.Statement.{statement}
 use Rattle.rules.proofs.refusals.no_access.Tie as tie
 
-place-requires : tie.Need-place-requires
-place-requires c κs = search needs
-
-of-requires : tie.Need-of-requires
-of-requires c κs = search needs
-
-cast-result : tie.Need-cast-result
-cast-result c = search needs
-
 returns : tie.Need-returns
 unfolding noAccess
 returns c = simp (c .before .of .ensures, c .before .before .place .ensures)
 
 pub no-access-spec : {M : Type 1} → statement M
-no-access-spec = tie.close (tie.spec place-requires of-requires cast-result returns)
+no-access-spec = tie.close
+    (tie.spec (λ c κs. search needs) (λ c κs. search needs) (λ c. search needs) returns)

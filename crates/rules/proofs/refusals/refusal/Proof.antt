@@ -7,66 +7,117 @@ use borrow.Author.Needs.{needs}
 use Rattle.rules.proofs.refusals.refusal.Statement.{statement}
 use Rattle.rules.proofs.refusals.refusal.Tie as tie
 
-bad-axis-requires : tie.Need-bad-axis-requires
-bad-axis-requires c κs = search needs
-
 returns : tie.Need-returns
 unfolding refusal firstOf
 returns c = simp (sym (c .before .bad-axis .ensures) ∙ c .if1 .taken)
 
-device-only-requires : tie.Need-device-only-requires
-device-only-requires c κs = search needs
-
 returns-2 : tie.Need-returns-2
 unfolding refusal firstOf
-returns-2 c = simp (sym (c .before .before .before .bad-axis .ensures) ∙ c .before .before .if1 .left, sym (c .before .device-only .ensures) ∙ c .if2 .taken)
-
-no-access-requires : tie.Need-no-access-requires
-no-access-requires c κs = search needs
+returns-2 c =
+    let device-only = c .before in
+    let if1 = device-only .before in
+    let bad-axis = if1 .before in
+    simp (sym (bad-axis .bad-axis .ensures) ∙ if1 .if1 .left, sym (device-only .device-only .ensures) ∙ c .if2 .taken)
 
 returns-3 : tie.Need-returns-3
 unfolding refusal firstOf
-returns-3 c = simp (sym (c .before .before .before .before .before .bad-axis .ensures) ∙ c .before .before .before .before .if1 .left, sym (c .before .before .before .device-only .ensures) ∙ c .before .before .if2 .left, sym (c .before .no-access .ensures) ∙ c .if3 .taken)
-
-parked-for-requires : tie.Need-parked-for-requires
-parked-for-requires c κs = search needs
+returns-3 c =
+    let no-access = c .before in
+    let if2 = no-access .before in
+    let device-only = if2 .before in
+    let if1 = device-only .before in
+    let bad-axis = if1 .before in
+    simp (
+      sym (bad-axis .bad-axis .ensures) ∙ if1 .if1 .left,
+      sym (device-only .device-only .ensures) ∙ if2 .if2 .left,
+      sym (no-access .no-access .ensures) ∙ c .if3 .taken,
+    )
 
 returns-4 : tie.Need-returns-4
 unfolding refusal firstOf
-returns-4 c = simp (sym (c .before .before .before .before .before .before .before .bad-axis .ensures) ∙ c .before .before .before .before .before .before .if1 .left, sym (c .before .before .before .before .before .device-only .ensures) ∙ c .before .before .before .before .if2 .left, sym (c .before .before .before .no-access .ensures) ∙ c .before .before .if3 .left, sym (c .before .parked-for .ensures) ∙ c .if4 .taken)
-
-status-busy-requires : tie.Need-status-busy-requires
-status-busy-requires c κs = search needs
+returns-4 c =
+    let parked-for = c .before in
+    let if3 = parked-for .before in
+    let no-access = if3 .before in
+    let if2 = no-access .before in
+    let device-only = if2 .before in
+    let if1 = device-only .before in
+    let bad-axis = if1 .before in
+    simp (
+      sym (bad-axis .bad-axis .ensures) ∙ if1 .if1 .left,
+      sym (device-only .device-only .ensures) ∙ if2 .if2 .left,
+      sym (no-access .no-access .ensures) ∙ if3 .if3 .left,
+      sym (parked-for .parked-for .ensures) ∙ c .if4 .taken,
+    )
 
 returns-5 : tie.Need-returns-5
 unfolding refusal firstOf
-returns-5 c = simp (sym (c .before .before .before .before .before .before .before .before .before .bad-axis .ensures) ∙ c .before .before .before .before .before .before .before .before .if1 .left, sym (c .before .before .before .before .before .before .before .device-only .ensures) ∙ c .before .before .before .before .before .before .if2 .left, sym (c .before .before .before .before .before .no-access .ensures) ∙ c .before .before .before .before .if3 .left, sym (c .before .before .before .parked-for .ensures) ∙ c .before .before .if4 .left, sym (c .before .status-busy .ensures) ∙ c .if5 .taken)
-
-bad-data-requires : tie.Need-bad-data-requires
-bad-data-requires c κs = search needs
+returns-5 c =
+    let status-busy = c .before in
+    let if4 = status-busy .before in
+    let parked-for = if4 .before in
+    let if3 = parked-for .before in
+    let no-access = if3 .before in
+    let if2 = no-access .before in
+    let device-only = if2 .before in
+    let if1 = device-only .before in
+    let bad-axis = if1 .before in
+    simp (
+      sym (bad-axis .bad-axis .ensures) ∙ if1 .if1 .left,
+      sym (device-only .device-only .ensures) ∙ if2 .if2 .left,
+      sym (no-access .no-access .ensures) ∙ if3 .if3 .left,
+      sym (parked-for .parked-for .ensures) ∙ if4 .if4 .left,
+      sym (status-busy .status-busy .ensures) ∙ c .if5 .taken,
+    )
 
 returns-6 : tie.Need-returns-6
 unfolding refusal firstOf
-returns-6 c = simp (sym (c .before .before .before .before .before .before .before .before .before .before .before .bad-axis .ensures) ∙ c .before .before .before .before .before .before .before .before .before .before .if1 .left, sym (c .before .before .before .before .before .before .before .before .before .device-only .ensures) ∙ c .before .before .before .before .before .before .before .before .if2 .left, sym (c .before .before .before .before .before .before .before .no-access .ensures) ∙ c .before .before .before .before .before .before .if3 .left, sym (c .before .before .before .before .before .parked-for .ensures) ∙ c .before .before .before .before .if4 .left, sym (c .before .before .before .status-busy .ensures) ∙ c .before .before .if5 .left, sym (c .before .bad-data .ensures) ∙ c .if6 .taken)
+returns-6 c =
+    let bad-data = c .before in
+    let if5 = bad-data .before in
+    let status-busy = if5 .before in
+    let if4 = status-busy .before in
+    let parked-for = if4 .before in
+    let if3 = parked-for .before in
+    let no-access = if3 .before in
+    let if2 = no-access .before in
+    let device-only = if2 .before in
+    let if1 = device-only .before in
+    let bad-axis = if1 .before in
+    simp (
+      sym (bad-axis .bad-axis .ensures) ∙ if1 .if1 .left,
+      sym (device-only .device-only .ensures) ∙ if2 .if2 .left,
+      sym (no-access .no-access .ensures) ∙ if3 .if3 .left,
+      sym (parked-for .parked-for .ensures) ∙ if4 .if4 .left,
+      sym (status-busy .status-busy .ensures) ∙ if5 .if5 .left,
+      sym (bad-data .bad-data .ensures) ∙ c .if6 .taken,
+    )
 
 returns-7 : tie.Need-returns-7
 unfolding refusal firstOf
-returns-7 c = simp (sym (c .before .before .before .before .before .before .before .before .before .before .before .bad-axis .ensures) ∙ c .before .before .before .before .before .before .before .before .before .before .if1 .left, sym (c .before .before .before .before .before .before .before .before .before .device-only .ensures) ∙ c .before .before .before .before .before .before .before .before .if2 .left, sym (c .before .before .before .before .before .before .before .no-access .ensures) ∙ c .before .before .before .before .before .before .if3 .left, sym (c .before .before .before .before .before .parked-for .ensures) ∙ c .before .before .before .before .if4 .left, sym (c .before .before .before .status-busy .ensures) ∙ c .before .before .if5 .left, sym (c .before .bad-data .ensures) ∙ c .if6 .left)
+returns-7 c =
+    let bad-data = c .before in
+    let if5 = bad-data .before in
+    let status-busy = if5 .before in
+    let if4 = status-busy .before in
+    let parked-for = if4 .before in
+    let if3 = parked-for .before in
+    let no-access = if3 .before in
+    let if2 = no-access .before in
+    let device-only = if2 .before in
+    let if1 = device-only .before in
+    let bad-axis = if1 .before in
+    simp (
+      sym (bad-axis .bad-axis .ensures) ∙ if1 .if1 .left,
+      sym (device-only .device-only .ensures) ∙ if2 .if2 .left,
+      sym (no-access .no-access .ensures) ∙ if3 .if3 .left,
+      sym (parked-for .parked-for .ensures) ∙ if4 .if4 .left,
+      sym (status-busy .status-busy .ensures) ∙ if5 .if5 .left,
+      sym (bad-data .bad-data .ensures) ∙ c .if6 .left,
+    )
 
 pub refusal-spec : {M : Type 1} → statement M
 refusal-spec =
     tie.close
-    (tie.spec
-    bad-axis-requires
-    returns
-    device-only-requires
-    returns-2
-    no-access-requires
-    returns-3
-    parked-for-requires
-    returns-4
-    status-busy-requires
-    returns-5
-    bad-data-requires
-    returns-6
-    returns-7)
+    (tie.spec (λ c κs. search needs) returns (λ c κs. search needs) returns-2 (λ c κs. search needs) returns-3 (λ c κs. search needs)
+    returns-4 (λ c κs. search needs) returns-5 (λ c κs. search needs) returns-6 returns-7)

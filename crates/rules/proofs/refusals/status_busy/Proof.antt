@@ -6,12 +6,6 @@ use borrow.Author.Needs.{needs}
 use Rattle.rules.proofs.refusals.status_busy.Statement.{statement}
 use Rattle.rules.proofs.refusals.status_busy.Tie as tie
 
-of-requires : tie.Need-of-requires
-of-requires c κs = search needs
-
-moving-requires : tie.Need-moving-requires
-moving-requires c κs = search needs
-
 returns : tie.Need-returns
 unfolding statusBusy
 returns c = rw (sym (ap (λ q. q .rest) (c .before .before .of .ensures)) ∙ c .before .if1 .taken) (c .moving .ensures)
@@ -21,4 +15,5 @@ unfolding statusBusy
 returns-2 c = rw (sym (ap (λ q. q .rest) (c .before .of .ensures)) ∙ c .if1 .left)
 
 pub status-busy-spec : {M : Type 1} → statement M
-status-busy-spec = tie.close (tie.spec of-requires moving-requires returns returns-2)
+status-busy-spec = tie.close
+    (tie.spec (λ c κs. search needs) (λ c κs. search needs) returns returns-2)

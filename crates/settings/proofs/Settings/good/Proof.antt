@@ -7,36 +7,6 @@ use borrow.Author.Needs.{needs}
 use Rattle.settings.proofs.Settings.good.Statement.{statement}
 use Rattle.settings.proofs.Settings.good.Tie as tie
 
-in-range-requires : tie.Need-in-range-requires
-in-range-requires c κs = search needs
-
-in-range-requires-2 : tie.Need-in-range-requires-2
-in-range-requires-2 c κs = search needs
-
-in-range-requires-3 : tie.Need-in-range-requires-3
-in-range-requires-3 c κs = search needs
-
-in-range-requires-4 : tie.Need-in-range-requires-4
-in-range-requires-4 c κs = search needs
-
-in-range-requires-5 : tie.Need-in-range-requires-5
-in-range-requires-5 c κs = search needs
-
-in-range-requires-6 : tie.Need-in-range-requires-6
-in-range-requires-6 c κs = search needs
-
-in-range-requires-7 : tie.Need-in-range-requires-7
-in-range-requires-7 c κs = search needs
-
-in-range-requires-8 : tie.Need-in-range-requires-8
-in-range-requires-8 c κs = search needs
-
-in-range-requires-9 : tie.Need-in-range-requires-9
-in-range-requires-9 c κs = search needs
-
-in-range-requires-10 : tie.Need-in-range-requires-10
-in-range-requires-10 c κs = search needs
-
 returns : tie.Need-returns
 unfolding fold axisSettings
 returns c =
@@ -57,15 +27,5 @@ returns c =
 pub good-spec : {M : Type 1} → statement M
 good-spec =
     tie.close
-    (tie.spec
-    in-range-requires
-    in-range-requires-2
-    in-range-requires-3
-    in-range-requires-4
-    in-range-requires-5
-    in-range-requires-6
-    in-range-requires-7
-    in-range-requires-8
-    in-range-requires-9
-    in-range-requires-10
-    returns)
+    (tie.spec (λ c κs. search needs) (λ c κs. search needs) (λ c κs. search needs) (λ c κs. search needs) (λ c κs. search needs)
+    (λ c κs. search needs) (λ c κs. search needs) (λ c κs. search needs) (λ c κs. search needs) (λ c κs. search needs) returns)

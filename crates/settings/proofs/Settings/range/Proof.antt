@@ -4,72 +4,6 @@ use borrow.Author.Needs.{needs}
 use Rattle.settings.proofs.Settings.range.Statement.{statement}
 use Rattle.settings.proofs.Settings.range.Tie as tie
 
-number-requires : tie.Need-number-requires
-number-requires c κs = search needs
-
-number-requires-2 : tie.Need-number-requires-2
-number-requires-2 c κs = search needs
-
-enum-told : tie.Need-enum-told
-enum-told c = search needs
-
-to-requires : tie.Need-to-requires
-to-requires c κs = search needs
-
-enum-told-2 : tie.Need-enum-told-2
-enum-told-2 c = search needs
-
-to-requires-2 : tie.Need-to-requires-2
-to-requires-2 c κs = search needs
-
-enum-told-3 : tie.Need-enum-told-3
-enum-told-3 c = search needs
-
-to-requires-3 : tie.Need-to-requires-3
-to-requires-3 c κs = search needs
-
-enum-told-4 : tie.Need-enum-told-4
-enum-told-4 c = search needs
-
-to-requires-4 : tie.Need-to-requires-4
-to-requires-4 c κs = search needs
-
-enum-told-5 : tie.Need-enum-told-5
-enum-told-5 c = search needs
-
-to-requires-5 : tie.Need-to-requires-5
-to-requires-5 c κs = search needs
-
-enum-told-6 : tie.Need-enum-told-6
-enum-told-6 c = search needs
-
-to-requires-6 : tie.Need-to-requires-6
-to-requires-6 c κs = search needs
-
-enum-told-7 : tie.Need-enum-told-7
-enum-told-7 c = search needs
-
-to-requires-7 : tie.Need-to-requires-7
-to-requires-7 c κs = search needs
-
-enum-told-8 : tie.Need-enum-told-8
-enum-told-8 c = search needs
-
-to-requires-8 : tie.Need-to-requires-8
-to-requires-8 c κs = search needs
-
-enum-told-9 : tie.Need-enum-told-9
-enum-told-9 c = search needs
-
-to-requires-9 : tie.Need-to-requires-9
-to-requires-9 c κs = search needs
-
-enum-told-10 : tie.Need-enum-told-10
-enum-told-10 c = search needs
-
-to-requires-10 : tie.Need-to-requires-10
-to-requires-10 c κs = search needs
-
 returns : tie.Need-returns
 returns c = simp (c .to .ensures, c .before .enum-told .given .1)
 
@@ -103,36 +37,8 @@ returns-10 c = simp (c .to10 .ensures, c .before .enum-told10 .given .1)
 pub range-spec : {M : Type 1} → statement M
 range-spec =
     tie.close
-    (tie.spec
-    number-requires
-    number-requires-2
-    enum-told
-    to-requires
-    enum-told-2
-    to-requires-2
-    enum-told-3
-    to-requires-3
-    enum-told-4
-    to-requires-4
-    enum-told-5
-    to-requires-5
-    enum-told-6
-    to-requires-6
-    enum-told-7
-    to-requires-7
-    enum-told-8
-    to-requires-8
-    enum-told-9
-    to-requires-9
-    enum-told-10
-    to-requires-10
-    returns
-    returns-2
-    returns-3
-    returns-4
-    returns-5
-    returns-6
-    returns-7
-    returns-8
-    returns-9
-    returns-10)
+    (tie.spec (λ c κs. search needs) (λ c κs. search needs) (λ c. search needs) (λ c κs. search needs) (λ c. search needs)
+    (λ c κs. search needs) (λ c. search needs) (λ c κs. search needs) (λ c. search needs) (λ c κs. search needs) (λ c. search needs)
+    (λ c κs. search needs) (λ c. search needs) (λ c κs. search needs) (λ c. search needs) (λ c κs. search needs) (λ c. search needs)
+    (λ c κs. search needs) (λ c. search needs) (λ c κs. search needs) (λ c. search needs) (λ c κs. search needs) returns returns-2 returns-3
+    returns-4 returns-5 returns-6 returns-7 returns-8 returns-9 returns-10)

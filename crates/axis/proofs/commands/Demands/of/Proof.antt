@@ -4,90 +4,6 @@ use borrow.Author.Needs.{needs}
 use Rattle.axis.proofs.commands.Demands.of.Statement.{statement}
 use Rattle.axis.proofs.commands.Demands.of.Tie as tie
 
-row-requires : tie.Need-row-requires
-row-requires c κs = search needs
-
-row-requires-2 : tie.Need-row-requires-2
-row-requires-2 c κs = search needs
-
-row-requires-3 : tie.Need-row-requires-3
-row-requires-3 c κs = search needs
-
-enum-told : tie.Need-enum-told
-enum-told c = search needs
-
-enum-told-2 : tie.Need-enum-told-2
-enum-told-2 c = search needs
-
-enum-told-3 : tie.Need-enum-told-3
-enum-told-3 c = search needs
-
-enum-told-4 : tie.Need-enum-told-4
-enum-told-4 c = search needs
-
-enum-told-5 : tie.Need-enum-told-5
-enum-told-5 c = search needs
-
-enum-told-6 : tie.Need-enum-told-6
-enum-told-6 c = search needs
-
-enum-known-c : tie.Need-enum-known-c
-enum-known-c c = search needs
-
-of-device-requires : tie.Need-of-device-requires
-of-device-requires c κs = search needs
-
-get-access-requires : tie.Need-get-access-requires
-get-access-requires c κs = search needs
-
-row-requires-4 : tie.Need-row-requires-4
-row-requires-4 c κs = search needs
-
-enum-known-c-2 : tie.Need-enum-known-c-2
-enum-known-c-2 c = search needs
-
-of-device-requires-2 : tie.Need-of-device-requires-2
-of-device-requires-2 c κs = search needs
-
-set-access-requires : tie.Need-set-access-requires
-set-access-requires c κs = search needs
-
-only-at-rest-requires : tie.Need-only-at-rest-requires
-only-at-rest-requires c κs = search needs
-
-row-requires-5 : tie.Need-row-requires-5
-row-requires-5 c κs = search needs
-
-enum-told-7 : tie.Need-enum-told-7
-enum-told-7 c = search needs
-
-enum-told-8 : tie.Need-enum-told-8
-enum-told-8 c = search needs
-
-enum-told-9 : tie.Need-enum-told-9
-enum-told-9 c = search needs
-
-enum-told-10 : tie.Need-enum-told-10
-enum-told-10 c = search needs
-
-enum-told-11 : tie.Need-enum-told-11
-enum-told-11 c = search needs
-
-enum-told-12 : tie.Need-enum-told-12
-enum-told-12 c = search needs
-
-enum-told-13 : tie.Need-enum-told-13
-enum-told-13 c = search needs
-
-row-requires-6 : tie.Need-row-requires-6
-row-requires-6 c κs = search needs
-
-enum-told-14 : tie.Need-enum-told-14
-enum-told-14 c = search needs
-
-enum-told-15 : tie.Need-enum-told-15
-enum-told-15 c = search needs
-
 returns : tie.Need-returns
 returns c = simp (c .before .before .before .before .row .ensures, c .enum-told .given .1)
 
@@ -107,10 +23,25 @@ returns-6 : tie.Need-returns-6
 returns-6 c = simp (c .before .before .before .row2 .ensures, c .enum-told6 .given .1)
 
 returns-7 : tie.Need-returns-7
-returns-7 c = simp (c .row4 .ensures, c .before .get-access .ensures, c .before .before .of-device .ensures, c .before .before .before .before .c .given .1)
+returns-7 c =
+    let get-access = c .before in
+    let of-device = get-access .before in
+    let c-at = of-device .before .before in
+    simp (c .row4 .ensures, get-access .get-access .ensures, of-device .of-device .ensures, c-at .c .given .1)
 
 returns-8 : tie.Need-returns-8
-returns-8 c = simp (c .row5 .ensures, c .before .only-at-rest .ensures, c .before .before .set-access .ensures, c .before .before .before .of-device2 .ensures, c .before .before .before .before .before .c2 .given .1)
+returns-8 c =
+    let only-at-rest = c .before in
+    let set-access = only-at-rest .before in
+    let of-device2 = set-access .before in
+    let c2 = of-device2 .before .before in
+    simp (
+      c .row5 .ensures,
+      only-at-rest .only-at-rest .ensures,
+      set-access .set-access .ensures,
+      of-device2 .of-device2 .ensures,
+      c2 .c2 .given .1,
+    )
 
 returns-9 : tie.Need-returns-9
 returns-9 c = simp (c .before .before .before .before .row .ensures, c .enum-told7 .given .1)
@@ -142,49 +73,10 @@ returns-17 c = simp (c .before .before .row3 .ensures, c .enum-told15 .given .1)
 pub of-spec : {M : Type 1} → statement M
 of-spec =
     tie.close
-    (tie.spec
-    row-requires
-    row-requires-2
-    row-requires-3
-    enum-told
-    enum-told-2
-    enum-told-3
-    enum-told-4
-    enum-told-5
-    enum-told-6
-    enum-known-c
-    of-device-requires
-    get-access-requires
-    row-requires-4
-    enum-known-c-2
-    of-device-requires-2
-    set-access-requires
-    only-at-rest-requires
-    row-requires-5
-    enum-told-7
-    enum-told-8
-    enum-told-9
-    enum-told-10
-    enum-told-11
-    enum-told-12
-    enum-told-13
-    row-requires-6
-    enum-told-14
-    enum-told-15
-    returns
-    returns-2
-    returns-3
-    returns-4
-    returns-5
-    returns-6
-    returns-7
-    returns-8
-    returns-9
-    returns-10
-    returns-11
-    returns-12
-    returns-13
-    returns-14
-    returns-15
-    returns-16
+    (tie.spec (λ c κs. search needs) (λ c κs. search needs) (λ c κs. search needs) (λ c. search needs) (λ c. search needs)
+    (λ c. search needs) (λ c. search needs) (λ c. search needs) (λ c. search needs) (λ c. search needs) (λ c κs. search needs)
+    (λ c κs. search needs) (λ c κs. search needs) (λ c. search needs) (λ c κs. search needs) (λ c κs. search needs) (λ c κs. search needs)
+    (λ c κs. search needs) (λ c. search needs) (λ c. search needs) (λ c. search needs) (λ c. search needs) (λ c. search needs)
+    (λ c. search needs) (λ c. search needs) (λ c κs. search needs) (λ c. search needs) (λ c. search needs) returns returns-2 returns-3
+    returns-4 returns-5 returns-6 returns-7 returns-8 returns-9 returns-10 returns-11 returns-12 returns-13 returns-14 returns-15 returns-16
     returns-17)

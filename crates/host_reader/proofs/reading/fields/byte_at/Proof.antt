@@ -1,12 +1,9 @@
 -- `host_reader::reading::fields::byte_at` meets its contract: there is no byte beyond the end.
 -- Assumes nothing.
-use Rattle.host_reader.proofs.Parts.{past-end}
+use Rattle.host_reader.proofs.Fields.{past-end}
 use borrow.Author.Needs.{needs}
 use Rattle.host_reader.proofs.reading.fields.byte_at.Statement.{statement}
 use Rattle.host_reader.proofs.reading.fields.byte_at.Tie as tie
-
-shared-slice-read-result : tie.Need-shared-slice-read-result
-shared-slice-read-result c = search needs
 
 returns : tie.Need-returns
 returns c = search needs
@@ -15,4 +12,5 @@ returns-2 : tie.Need-returns-2
 returns-2 c = past-end (c .before .args .s .now) _ (c .if1 .left)
 
 pub byte-at-spec : {M : Type 1} → statement M
-byte-at-spec = tie.close (tie.spec shared-slice-read-result returns returns-2)
+byte-at-spec = tie.close
+    (tie.spec (λ c. search needs) returns returns-2)

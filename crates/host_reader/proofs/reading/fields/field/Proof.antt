@@ -2,16 +2,10 @@
 -- Assumes nothing.
 use native.Mathlib.Omega.{arith}
 use lib.ListN.{length-take}
-use Rattle.host_reader.proofs.Parts.{front-is}
+use Rattle.host_reader.proofs.Fields.{front-is}
 use borrow.Author.Needs.{needs}
 use Rattle.host_reader.proofs.reading.fields.field.Statement.{statement}
 use Rattle.host_reader.proofs.reading.fields.field.Tie as tie
-
-rest-requires : tie.Need-rest-requires
-rest-requires c κs = search needs
-
-lesser-requires : tie.Need-lesser-requires
-lesser-requires c κs = search needs
 
 slice-aggregate-result : tie.Need-slice-aggregate-result
 slice-aggregate-result c = simp length-take (omega arith)
@@ -20,4 +14,5 @@ returns : tie.Need-returns
 returns c = rw (← c .before .before .rest .ensures) (front-is _ _ _ (c .before .lesser .ensures))
 
 pub field-spec : {M : Type 1} → statement M
-field-spec = tie.close (tie.spec rest-requires lesser-requires slice-aggregate-result returns)
+field-spec = tie.close
+    (tie.spec (λ c κs. search needs) (λ c κs. search needs) slice-aggregate-result returns)

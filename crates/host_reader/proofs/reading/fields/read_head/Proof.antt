@@ -1,4 +1,5 @@
--- `host_reader::reading::fields::read_head` meets its contract: each field stands at its place, and the code's lists of words are the rule's.
+-- `host_reader::reading::fields::read_head` meets its contract: each field stands at its place, and the code's lists of words are
+-- the rule's.
 -- Assumes nothing.
 use Rattle.laws.specs.Text.{text}
 use Rattle.words.specs.Cutting.{cut, isSpace, noSpace, grow}
@@ -8,54 +9,6 @@ use Rattle.host_reader.proofs.Heads.{digit-is, word-is, head-is}
 use borrow.Author.Needs.{needs}
 use Rattle.host_reader.proofs.reading.fields.read_head.Statement.{statement}
 use Rattle.host_reader.proofs.reading.fields.read_head.Tie as tie
-
-byte-at-requires : tie.Need-byte-at-requires
-byte-at-requires c κs = search needs
-
-digit-value-requires : tie.Need-digit-value-requires
-digit-value-requires c κs = search needs
-
-byte-at-requires-2 : tie.Need-byte-at-requires-2
-byte-at-requires-2 c κs = search needs
-
-digit-value-requires-2 : tie.Need-digit-value-requires-2
-digit-value-requires-2 c κs = search needs
-
-byte-at-requires-3 : tie.Need-byte-at-requires-3
-byte-at-requires-3 c κs = search needs
-
-digit-value-requires-3 : tie.Need-digit-value-requires-3
-digit-value-requires-3 c κs = search needs
-
-field-requires : tie.Need-field-requires
-field-requires c κs = search needs
-
-slice-aggregate-find-word : tie.Need-slice-aggregate-find-word
-slice-aggregate-find-word c = search needs
-
-find-word-requires : tie.Need-find-word-requires
-find-word-requires c κs = search needs
-
-field-requires-2 : tie.Need-field-requires-2
-field-requires-2 c κs = search needs
-
-slice-aggregate-find-word-2 : tie.Need-slice-aggregate-find-word-2
-slice-aggregate-find-word-2 c = search needs
-
-find-word-requires-2 : tie.Need-find-word-requires-2
-find-word-requires-2 c κs = search needs
-
-field-requires-3 : tie.Need-field-requires-3
-field-requires-3 c κs = search needs
-
-slice-aggregate-find-word-3 : tie.Need-slice-aggregate-find-word-3
-slice-aggregate-find-word-3 c = search needs
-
-find-word-requires-3 : tie.Need-find-word-requires-3
-find-word-requires-3 c κs = search needs
-
-two-of-requires : tie.Need-two-of-requires
-two-of-requires c κs = search needs
 
 returns : tie.Need-returns
 unfolding verdicts statuses warnings warningNames text cut isSpace noSpace grow
@@ -79,21 +32,6 @@ returns c =
 pub read-head-spec : {M : Type 1} → statement M
 read-head-spec =
     tie.close
-    (tie.spec
-    byte-at-requires
-    digit-value-requires
-    byte-at-requires-2
-    digit-value-requires-2
-    byte-at-requires-3
-    digit-value-requires-3
-    field-requires
-    slice-aggregate-find-word
-    find-word-requires
-    field-requires-2
-    slice-aggregate-find-word-2
-    find-word-requires-2
-    field-requires-3
-    slice-aggregate-find-word-3
-    find-word-requires-3
-    two-of-requires
-    returns)
+    (tie.spec (λ c κs. search needs) (λ c κs. search needs) (λ c κs. search needs) (λ c κs. search needs) (λ c κs. search needs)
+    (λ c κs. search needs) (λ c κs. search needs) (λ c. search needs) (λ c κs. search needs) (λ c κs. search needs) (λ c. search needs)
+    (λ c κs. search needs) (λ c κs. search needs) (λ c. search needs) (λ c κs. search needs) (λ c κs. search needs) returns)

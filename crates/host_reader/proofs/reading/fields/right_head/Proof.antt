@@ -10,4 +10,5 @@ unfolding rightHead
 returns c = refl
 
 pub right-head-spec : {M : Type 1} → statement M
-right-head-spec = tie.close (tie.spec returns)
+right-head-spec = tie.close
+    (tie.spec returns)

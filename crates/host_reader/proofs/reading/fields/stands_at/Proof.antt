@@ -5,15 +5,10 @@ use borrow.Author.Needs.{needs}
 use Rattle.host_reader.proofs.reading.fields.stands_at.Statement.{statement}
 use Rattle.host_reader.proofs.reading.fields.stands_at.Tie as tie
 
-field-requires : tie.Need-field-requires
-field-requires c κs = search needs
-
-same-bytes-requires : tie.Need-same-bytes-requires
-same-bytes-requires c κs = search needs
-
 returns : tie.Need-returns
 unfolding stands field
 returns c = rw (← c .before .field .ensures) (c .same-bytes .ensures)
 
 pub stands-at-spec : {M : Type 1} → statement M
-stands-at-spec = tie.close (tie.spec field-requires same-bytes-requires returns)
+stands-at-spec = tie.close
+    (tie.spec (λ c κs. search needs) (λ c κs. search needs) returns)

@@ -1,7 +1,7 @@
 -- `host_reader::reading::fields::two_of` meets its contract: two digits stay below 100.
 -- Assumes nothing.
 use native.Mathlib.Omega.{arith}
-use Rattle.host_reader.proofs.Parts.{both-digits, two-yes, two-no}
+use Rattle.host_reader.proofs.Fields.{both-digits, two-yes, two-no}
 use Rattle.host_reader.proofs.reading.fields.two_of.Statement.{statement}
 use Rattle.host_reader.proofs.reading.fields.two_of.Tie as tie
 
@@ -18,4 +18,5 @@ returns-2 : tie.Need-returns-2
 returns-2 c = two-no _ _ (c .if1 .left)
 
 pub two-of-spec : {M : Type 1} → statement M
-two-of-spec = tie.close (tie.spec mul-result add-result returns returns-2)
+two-of-spec = tie.close
+    (tie.spec mul-result add-result returns returns-2)
