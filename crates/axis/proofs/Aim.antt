@@ -7,7 +7,9 @@ use native.Mathlib.Omega.{arith}
 use Rattle.units.specs.Units.{position}
 use Rattle.units.specs.declared.Reach.{Reach}
 use Rattle.units.specs.declared.Reach.the-variants as Reach
-use Rattle.axis.specs.Types.{Position, Target, To, Axis}
+use Rattle.settings.specs.Types.{Position, Target}
+use Rattle.axis.specs.declared.Motion.the-variants.{To}
+use Rattle.axis.specs.declared.Axis.{Axis}
 use Rattle.axis.specs.Travel.{target, exists, between, mayMoveTo}
 use Rattle.axis.specs.Record.{withMotion}
 use Rattle.axis.specs.Moves.{moved}

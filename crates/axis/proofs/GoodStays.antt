@@ -13,7 +13,11 @@ use Rattle.units.proofs.Ranges.{above-least, below-most, wider, opposite}
 use Rattle.command.specs.Settings.{axisSettings}
 use Rattle.settings.specs.Settings.{inRange}
 use Rattle.settings.proofs.GoodStays.{one}
-use Rattle.axis.specs.Types.{Position, Speed, Number, LimitMin, LimitMax, MaxSpeed, Target, Settings, Motion, To, At, Stopping, Axis}
+use Rattle.settings.specs.Types.{Position, Speed, Number, LimitMin, LimitMax, MaxSpeed, Target}
+use Rattle.settings.specs.declared.Settings.{Settings}
+use Rattle.axis.specs.declared.Motion.{Motion}
+use Rattle.axis.specs.declared.Motion.the-variants.{To, At, Stopping}
+use Rattle.axis.specs.declared.Axis.{Axis}
 use Rattle.axis.specs.Record.{withSettings, withMotion, withWarnings, withStored, moving, stopped}
 use Rattle.axis.specs.Good.{goodPosition, goodMotion, goodAxis}
 use Rattle.axis.specs.Travel.{limitMin, limitMax, maxSpeed, isPlace, target, exists, between, mayMoveTo, mayRunAt, mayStore}

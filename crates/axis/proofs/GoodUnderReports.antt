@@ -8,7 +8,12 @@ use Rattle.settings.proofs.GoodStays.{put-good}
 use Rattle.axis.specs.Record.{withWarnings, moving, isHoming}
 use Rattle.axis.specs.Good.{goodMotion, goodAxis}
 use Rattle.axis.proofs.GoodStays.{choose, whole, settings-good, stored-good, motion-good, with-warnings}
-use Rattle.axis.specs.Types.{Position, Number, Pos, Motion, Idle, Axis, Report, MovingAt, StoppedAt, HomeReached, Raised, DriverNormal, Unknown}
+use Rattle.settings.specs.Types.{Position, Number, Pos}
+use Rattle.axis.specs.declared.Motion.{Motion}
+use Rattle.axis.specs.declared.Motion.the-variants.{Idle}
+use Rattle.axis.specs.declared.Axis.{Axis}
+use Rattle.axis.specs.declared.reports.Report.{Report}
+use Rattle.axis.specs.declared.reports.Report.the-variants.{MovingAt, StoppedAt, HomeReached, Raised, DriverNormal, Unknown}
 use Rattle.axis.specs.RaisedWarnings.{isWarning, raise, raised}
 use Rattle.axis.specs.Reports.{placed, takes, reported}
 

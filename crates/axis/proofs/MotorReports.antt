@@ -8,7 +8,9 @@ use mir.Syntax.{w32}
 use mir.Val.{Fits}
 use lib.ListN.{getD}
 use Rattle.units.specs.Units.{place}
-use Rattle.axis.specs.Types.{Number, Report, Unknown}
+use Rattle.settings.specs.Types.{Number}
+use Rattle.axis.specs.declared.reports.Report.{Report}
+use Rattle.axis.specs.declared.reports.Report.the-variants.{Unknown}
 use Rattle.axis.specs.Reports.{reportOf}
 
 other : (k : ℕ) (a b c d e : Report) → (1 ≤ k → 6 ≤ k) → Unknown ≡ getD (Unknown ∷ a ∷ b ∷ c ∷ d ∷ e ∷ []) k Unknown

@@ -5,7 +5,8 @@ use Rattle.units.specs.Units.{position, _to_}
 use Rattle.units.specs.Reach.{reach}
 use Rattle.units.specs.declared.Reach.{Reach}
 use Rattle.units.specs.declared.Reach.the-variants as Reach
-use Rattle.axis.specs.Types.{Target, Axis}
+use Rattle.settings.specs.Types.{Target}
+use Rattle.axis.specs.declared.Axis.{Axis}
 use Rattle.axis.specs.Travel.{limitMin, limitMax, target, exists, mayMoveTo}
 
 abbrev pub within : Target → Axis → Reach

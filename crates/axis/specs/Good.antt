@@ -4,7 +4,10 @@ use mathlib.Core.Bool.{Bool, true, _&&_}
 use Rattle.laws.specs.Lists.{all}
 use Rattle.units.specs.Units.{within, bound}
 use Rattle.command.specs.Settings.{axisSettings}
-use Rattle.axis.specs.Types.{Position, Motion, Idle, Homing, To, At, Stopping, Axis}
+use Rattle.settings.specs.Types.{Position}
+use Rattle.axis.specs.declared.Motion.{Motion}
+use Rattle.axis.specs.declared.Motion.the-variants.{Idle, Homing, To, At, Stopping}
+use Rattle.axis.specs.declared.Axis.{Axis}
 use Rattle.settings.specs.Settings.{inRange}
 
 abbrev pub goodPosition : Position → Bool

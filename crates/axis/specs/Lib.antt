@@ -1,4 +1,3 @@
-pub mod Types
 pub mod Record
 pub mod Travel
 pub mod Aim
@@ -8,4 +7,3 @@ pub mod Moves
 pub mod RaisedWarnings
 pub mod Reports
 pub mod Commands
-pub mod Shows

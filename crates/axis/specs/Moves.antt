@@ -4,7 +4,9 @@ use mathlib.Core.Bool.{cond}
 use Prim.Native.Nat.{_-_}
 use lib.ListN.{set}
 use Rattle.units.specs.Units.{position, place}
-use Rattle.axis.specs.Types.{Position, Number, Target, To, Axis}
+use Rattle.settings.specs.Types.{Position, Number, Target}
+use Rattle.axis.specs.declared.Motion.the-variants.{To}
+use Rattle.axis.specs.declared.Axis.{Axis}
 use Rattle.axis.specs.Record.{withMotion, withWarnings, withStored}
 use Rattle.axis.specs.Travel.{isPlace, target, mayMoveTo}
 use Rattle.axis.specs.Warnings.{onlyFD}

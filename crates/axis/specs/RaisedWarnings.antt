@@ -5,7 +5,8 @@ use Prim.Native.Nat.{ℕ, _+_, _-_, _/_, _%_, _^_}
 use lib.Dec.{eqb, leb}
 use Rattle.units.specs.Units.{place}
 use Rattle.axis.specs.Record.{withWarnings}
-use Rattle.axis.specs.Types.{Number, Axis}
+use Rattle.settings.specs.Types.{Number}
+use Rattle.axis.specs.declared.Axis.{Axis}
 
 -- "warning raised, one of the first seven by its place 1 to 7"
 abbrev pub isWarning : Number → Bool

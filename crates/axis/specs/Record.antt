@@ -7,7 +7,11 @@ use lib.IntN.{pos}
 use lib.ListN.{replicate}
 use Rattle.units.specs.Units.{position}
 use Rattle.settings.specs.Record.{freshSettings}
-use Rattle.axis.specs.Types.{Position, Motion, Idle, Homing, To, At, Stopping, Settings, Axis}
+use Rattle.settings.specs.Types.{Position}
+use Rattle.settings.specs.declared.Settings.{Settings}
+use Rattle.axis.specs.declared.Motion.{Motion}
+use Rattle.axis.specs.declared.Motion.the-variants.{Idle, Homing, To, At, Stopping}
+use Rattle.axis.specs.declared.Axis.{Axis}
 
 -- the records, made anew from their parts
 abbrev pub axis : Settings → Motion → Bool → ℕ → List Position → Axis

@@ -4,7 +4,12 @@ use mathlib.Core.Bool.{Bool, true, false, _&&_}
 use mathlib.Core.List.{[], _∷_}
 use lib.ListN.{getD}
 use Rattle.units.specs.Units.{position, place, within, bound}
-use Rattle.axis.specs.Types.{Position, Number, Motion, Idle, Axis, Report, MovingAt, StoppedAt, HomeReached, Raised, DriverNormal, Unknown}
+use Rattle.settings.specs.Types.{Position, Number}
+use Rattle.axis.specs.declared.Motion.{Motion}
+use Rattle.axis.specs.declared.Motion.the-variants.{Idle}
+use Rattle.axis.specs.declared.Axis.{Axis}
+use Rattle.axis.specs.declared.reports.Report.{Report}
+use Rattle.axis.specs.declared.reports.Report.the-variants.{MovingAt, StoppedAt, HomeReached, Raised, DriverNormal, Unknown}
 use Rattle.settings.specs.Record.{settings}
 use Rattle.axis.specs.Record.{axis, withWarnings, moving, isHoming}
 use Rattle.axis.specs.RaisedWarnings.{isWarning, raised, withoutFD}

@@ -6,7 +6,8 @@ use lib.Dec.{leb}
 use lib.IntN.{ℤ, pos, negℤ, _+ℤ_}
 use lib.ListN.{getD}
 use Rattle.units.specs.Units.{position, place, _to_, within}
-use Rattle.axis.specs.Types.{Position, Speed, Number, Target, Abs, Rel, Min, Max, Stored, Axis}
+use Rattle.settings.specs.Types.{Position, Speed, Number, Target, Abs, Rel, Min, Max, Stored}
+use Rattle.axis.specs.declared.Axis.{Axis}
 
 abbrev pub limitMin : Axis → ℤ
 limitMin a = a .settings .limit .min .0

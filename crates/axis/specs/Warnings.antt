@@ -4,7 +4,7 @@ use mathlib.Core.Bool.{Bool, not}
 use mathlib.Core.List.{List}
 use Prim.Native.Nat.{ℕ, _%_}
 use Rattle.flags.specs.Flags.{active as activeOf}
-use Rattle.axis.specs.Types.{Axis}
+use Rattle.axis.specs.declared.Axis.{Axis}
 
 -- the eight flags
 abbrev pub active : Axis → List Bool

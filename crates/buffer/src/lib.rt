@@ -1,6 +1,7 @@
 // Writes into a lent buffer: each writer stores the bytes that have a place there and gives the place after the last of them.
 // A byte that has no place is not written, so that no writer asks for room; specs/Wrote.antt says what each one leaves.
 ghost use mathlib.Core.Path.{_≡_};
+ghost use mathlib.Core.Bool.{cond};
 ghost use mathlib.Core.List.{_∷_, [], _++_};
 ghost use Prim.Native.Nat.{_%_};
 ghost use Rattle.numbers.specs.Decimal.{digits, decimal, twoDigits, hexDigit, hexPair};
@@ -29,6 +30,17 @@ pub fn put_text(buf: &mut [u8], at: usize, text: &[u8]) -> usize
         i += 1;
     }
     next
+}
+
+// One text or the other.
+pub fn put_either(buf: &mut [u8], at: usize, first: bool, a: &[u8], b: &[u8]) -> usize
+    ensures { λ r. ⌜ Wrote (now (buf .entry)) at (cond first (now (a .entry)) (now (b .entry))) (now (buf .exit)) r ⌝ }
+{
+    if first {
+        put_text(buf, at, a)
+    } else {
+        put_text(buf, at, b)
+    }
 }
 
 // "A number is written as its tenth, written likewise, and then its last digit".

@@ -14,7 +14,7 @@ use Rattle.laws.proofs.Bools.{not-false}
 use Rattle.laws.proofs.Refusals.{unmet, below}
 use Rattle.command.specs.declared.Command.{Command}
 use Rattle.phrase.specs.declared.WordsRead.the-variants as Words
-use Rattle.phrase.specs.Reading.{echoOf}
+use Rattle.command.specs.Commands.{echoOf}
 use Rattle.line.specs.declared.LineRead.{LineRead}
 use Rattle.line.specs.declared.LineRead.the-variants.{Silent, Addressed}
 use Rattle.line.specs.Reading.{readLine, wordsOf}
@@ -118,11 +118,11 @@ refusal-keeps-the-record d l b =
     (λ k skip c g e h. absurd (h refl))
 
 -- On a good record the next record is good.
-pub good-goes-on : (d : Device) (l b : List ℕ) → length (d .axes) ≡ 4 → good d ≡ true → good (step d l b .answer .next) ≡ true
+pub good-goes-on : (d : Device) (l b : List ℕ) → good d ≡ true → good (step d l b .answer .next) ≡ true
 unfolding silent rejected accepted written obey
-good-goes-on d l b four g =
+good-goes-on d l b g =
     every-answer (λ s. good (s .answer .next) ≡ true) d l b g (λ n k g. g)
-    (λ k skip c g e. ap good (sym (accepted-next d k c e)) ∙ good-stays d k c four g)
+    (λ k skip c g e. ap good (sym (accepted-next d k c e)) ∙ good-stays d k c g)
 
 -- Bytes behind a reply keep their values, whatever was answered: the buffer is some text, and what stood behind it.
 pub record Behind (b : List ℕ) (s : Stepped) : Type 0 where

@@ -28,7 +28,13 @@ use Rattle.command.specs.declared.AxisSetting.{AxisSetting}
 use Rattle.command.specs.declared.AxisSetting.the-variants as Axis
 use Rattle.command.specs.declared.DeviceSetting.{DeviceSetting}
 use Rattle.command.specs.declared.DeviceSetting.the-variants.{CommAddress, CommAlert, CommChecksum, SystemAccess, DeviceId, SystemAxisCount}
+use Rattle.command.specs.declared.Setting.{Setting}
 use Rattle.command.specs.declared.Setting.the-variants.{OfAxis, OfDevice}
+use Rattle.command.specs.declared.forms.Form.{Form}
+use Rattle.command.specs.declared.kinds.Data.{Data}
+use Rattle.command.specs.declared.kinds.Data.the-variants as Data
+use Rattle.command.specs.Forms.{formOf}
+use Rattle.command.specs.Commands.{demands, carriesWords, echoOf}
 use Rattle.command.specs.declared.Command.{Command}
 use Rattle.command.specs.Settings.{deviceSettings}
 use Rattle.settings.specs.declared.Settings.{Settings}
@@ -52,10 +58,7 @@ use Rattle.view.specs.View.{valueIn, valuesOf, warningsOf}
 use Rattle.view.specs.declared.Value.{Value}
 use Rattle.view.specs.declared.Value.the-variants as Value
 use Rattle.words.specs.Cutting.{cut}
-use Rattle.phrase.specs.Reading.{isEcho, echoOf}
-use Rattle.view.specs.Data.{parkedData, shownBy, textOf, dataOf}
-use Rattle.view.specs.declared.Shown.{Shown}
-use Rattle.view.specs.declared.Shown.the-variants as Shown
+use Rattle.view.specs.Data.{settingData, parkedData, textOf, dataOf}
 
 -- what lies in a range of 32 bits takes 11 bytes at most
 short-in : (l h z : ℤ) → SFits w32 l → SFits w32 h → within (l to h) z ≡ true → length (decimal z) ≤ 11
@@ -195,25 +198,28 @@ module _ (d : Device) (k : ℕ) (g : Good d) (few : d .count ≤ 4) (there : k �
       (at 5 (omega arith))
 
   -- ---- the data of each kind
-  text-fits : (ws : List (List ℕ)) → length (echoed ws) ≤ 74 → (x : Shown) → length (textOf d k ws x) ≤ 74
+  setting-fits : (x : Setting) → length (settingData d k x) ≤ 74
+  setting-fits (OfAxis x) = omega (arith, values-fit (Value.Of x))
+  setting-fits (OfDevice x) = omega (arith, device-short x)
+
+  text-fits : (ws : List (List ℕ)) → length (echoed ws) ≤ 74 → (f : Form) (x : Data) → length (textOf d k ws f x) ≤ 74
   unfolding text parkedData
-  text-fits ws h Shown.Nought = omega arith
-  text-fits ws h (Shown.Value (OfAxis x)) = omega (arith, values-fit (Value.Of x))
-  text-fits ws h (Shown.Value (OfDevice x)) = omega (arith, device-short x)
-  text-fits ws h (Shown.StoredAt n) = omega (arith, values-fit (Value.Stored n))
-  text-fits ws h Shown.Position = omega (arith, values-fit Value.Pos)
-  text-fits ws h Shown.Active = omega (arith, list-length (warningsOf d k))
-  text-fits ws h Shown.Parked = go (d .parked)
+  text-fits ws h f Data.Nought = omega arith
+  text-fits ws h f Data.Values = setting-fits (f .setting)
+  text-fits ws h f Data.Stored = omega (arith, values-fit (Value.Stored (f .first)))
+  text-fits ws h f Data.Position = omega (arith, values-fit Value.Pos)
+  text-fits ws h f Data.Active = omega (arith, list-length (warningsOf d k))
+  text-fits ws h f Data.Parked = go (d .parked)
     where
       go : (t : Bool) → length (cond t (text "1") (text "0")) ≤ 74
       go true = omega arith
       go false = omega arith
-  text-fits ws h Shown.Words = h
+  text-fits ws h f Data.Words = h
 
 -- the words that an echo carries
 echo-short : (c : Command) (s : List ℕ) (skip : ℕ) → length s ≤ 78 → length (echoed (echoOf c (drop skip (cut s)))) ≤ 74
 unfolding echoOf
-echo-short c s skip h = go (isEcho c)
+echo-short c s skip h = go (carriesWords c)
   where
     go : (t : Bool) → length (echoed (cond t (drop 2 (drop skip (cut s))) [])) ≤ 74
     go true = echo-fits s skip h
@@ -225,4 +231,4 @@ pub data-fits : (d : Device) (k : ℕ) (c : Command) (s : List ℕ) (skip : ℕ)
 unfolding dataOf badAxis
 data-fits d k c s skip g few e h =
     text-fits d k (parts d g) few (ltb-false (d .count) k (within-count d k c e)) (echoOf c (drop skip (cut s))) (echo-short c s skip h)
-    (shownBy c)
+    (formOf c) (demands c .reply)

@@ -11,7 +11,7 @@ use Rattle.laws.proofs.Refusals.{at-most}
 use Rattle.words.specs.Cutting.{cut}
 use Rattle.command.specs.declared.Command.{Command}
 use Rattle.phrase.specs.declared.WordsRead.the-variants as Words
-use Rattle.phrase.specs.Reading.{echoOf}
+use Rattle.command.specs.Commands.{echoOf}
 use Rattle.line.specs.declared.Frame.{Frame}
 use Rattle.line.specs.declared.Frame.the-variants as Frame
 use Rattle.line.specs.declared.LineRead.{LineRead}

@@ -8,15 +8,17 @@ use lib.Dec.{eqb}
 use lib.ListN.{length, drop}
 use borrow.Author.Tests.{eq-eqb, eqb-true, ne-eqb}
 use Rattle.command.specs.declared.Command.{Command}
+use Rattle.command.specs.declared.kinds.Demands.{Demands}
+use Rattle.command.specs.Commands.{demands, echoOf}
 use Rattle.phrase.specs.declared.WordsRead.{WordsRead}
 use Rattle.phrase.specs.declared.WordsRead.the-variants as Words
-use Rattle.phrase.specs.Reading.{echoOf}
 use Rattle.line.specs.declared.LineRead.{LineRead}
 use Rattle.line.specs.declared.LineRead.the-variants as Line
 use Rattle.line.specs.Reading.{readWords}
 use Rattle.device.specs.declared.Device.{Device}
 use Rattle.device.specs.Good.{good}
-use Rattle.rules.specs.Refusals.{refusal}
+use Rattle.rules.specs.declared.refusals.Ruled.{Ruled}
+use Rattle.rules.specs.Refusals.{refusal, ruled}
 use Rattle.rules.specs.Effects.{next}
 use Rattle.reply.specs.Data.{refusalName}
 use Rattle.reply.specs.Reply.{reply}
@@ -34,14 +36,14 @@ module _ (d : Device) (ws : List (List ℕ)) (b : List ℕ) where
   abbrev pub answering : Ruling → Stepped
   answering (Silent n) = silent n d b
   answering (Rejected k n) = rejected n d k b
-  answering (Accepted k skip c) = accepted d k (echoOf c (drop skip ws)) c b
+  answering (Accepted k skip c x) = accepted d k (echoOf c (drop skip ws)) c b
 
   words-answered : (k skip : ℕ) (w : WordsRead) → answering (ruleWords d k skip w) ≡ addressed d ws k skip w b
   unfolding obeyed
   words-answered k skip (Words.Refused n) = refl
   words-answered k skip (Words.Command c) = go (eqb (refusal d k c) 0)
     where
-      go : (t : Bool) → answering (cond t (Accepted k skip c) (Rejected k (refusal d k c))) ≡ cond t
+      go : (t : Bool) → answering (cond t (Accepted k skip c (demands c)) (Rejected k (refusal d k c))) ≡ cond t
           (accepted d k (echoOf c (drop skip ws)) c b) (rejected (refusal d k c) d k b)
       go true = refl
       go false = refl
@@ -71,12 +73,12 @@ module _ (d : Device) (ws : List (List ℕ)) (b : List ℕ) where
       unfolding rejected
       carried-rejected k n e p w q = gives-as (answered-as ruled e) (reply-gives n d k false (refusalName n) (rw p at w) q)
 
-      pub carried-accepted : (k skip : ℕ) (c : Command) → x ≡ Accepted k skip c → {after : Device} → after ≡ next d k c
+      pub carried-accepted : (k skip : ℕ) (c : Command) (y : Demands) → x ≡ Accepted k skip c y → {after : Device} → after ≡ next d k c
           → {h : Heading} → h ≡ headingOf after k true
           → {r : ℕ} {f : List ℕ} → Replied (reply (h .head) (h .sum) (dataOf d k (echoOf c (drop skip ws)) c)) b r f
           → {a : Answer} → a ≡ record { number = 0; length = r; next = after } → Gives (respond d ws (readWords ws) b) a f
       unfolding accepted
-      carried-accepted k skip c e m p w q =
+      carried-accepted k skip c y e m p w q =
           gives-as (answered-as ruled e) (reply-gives 0 (next d k c) k true (dataOf d k (echoOf c (drop skip ws)) c) (rw (p, m) at w)
           (rw m at q))
 
@@ -84,14 +86,14 @@ module _ (d : Device) where
   abbrev pub Sound : Ruling → Type 0
   Sound (Silent n) = _≡_ {A = ℕ} 0 0
   Sound (Rejected k n) = _≡_ {A = ℕ} 0 0
-  Sound (Accepted k skip c) = (refusal d k c ≡ 0) × (skip ≤ 2)
+  Sound (Accepted k skip c x) = (refusal d k c ≡ 0) × (skip ≤ 2) × (x ≡ demands c)
 
   words-sound : (k skip : ℕ) (w : WordsRead) → skip ≤ 2 → Sound (ruleWords d k skip w)
   words-sound k skip (Words.Refused n) few = refl
   words-sound k skip (Words.Command c) few = go (eqb (refusal d k c) 0) refl
     where
-      go : (t : Bool) → eqb (refusal d k c) 0 ≡ t → Sound (cond t (Accepted k skip c) (Rejected k (refusal d k c)))
-      go true e = (eqb-true (refusal d k c) 0 e, few)
+      go : (t : Bool) → eqb (refusal d k c) 0 ≡ t → Sound (cond t (Accepted k skip c (demands c)) (Rejected k (refusal d k c)))
+      go true e = (eqb-true (refusal d k c) 0 e, few, refl)
       go false e = refl
 
   read-sound : (ws : List (List ℕ)) (r : LineRead) → r ≡ readWords ws → Sound (rule d r)
@@ -108,11 +110,12 @@ module _ (d : Device) where
 
 -- the reader's command, where it meets no refusal, and where it meets one
 module _ (d : Device) (k skip : ℕ) (c : Command) {w : WordsRead} (e : w ≡ Words.Command c) where
-  pub ruled-accepted : {n : ℕ} → n ≡ refusal d k c → n ≡ 0 → Accepted k skip c ≡ ruleWords d k skip w
-  ruled-accepted q h = rw (e, eq-eqb (refusal d k c) 0 (sym q ∙ h))
+  pub ruled-accepted : {x : Ruled} → x ≡ ruled d k c → x .number ≡ 0 → Accepted k skip c (x .demands) ≡ ruleWords d k skip w
+  ruled-accepted q h =
+      rw (e, eq-eqb (refusal d k c) 0 (sym (ap (λ (y : Ruled). y .number) q) ∙ h)) (ap (λ (y : Ruled). Accepted k skip c (y .demands)) q)
 
-  pub ruled-rejected : {n : ℕ} → n ≡ refusal d k c → (n ≡ 0 → ⊥) → Rejected k n ≡ ruleWords d k skip w
-  ruled-rejected {n} q h = rw (e, ← q, ne-eqb n 0 h)
+  pub ruled-rejected : {x : Ruled} → x ≡ ruled d k c → (x .number ≡ 0 → ⊥) → Rejected k (x .number) ≡ ruleWords d k skip w
+  ruled-rejected {x} q h = let p = ap (λ (y : Ruled). y .number) q in rw (e, ← p, ne-eqb (x .number) 0 h)
 
 pub ruled-as : {x : Ruling} {r : LineRead} (d : Device) (ws : List (List ℕ)) → x ≡ rule d r → r ≡ readWords ws → x ≡ rule d (readWords ws)
 ruled-as d ws q e = q ∙ ap (rule d) e

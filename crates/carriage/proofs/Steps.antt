@@ -15,9 +15,13 @@ use Rattle.numbers.specs.Reading.{readAddress}
 use Rattle.numbers.specs.declared.UnsignedRead.{UnsignedRead}
 use Rattle.numbers.specs.declared.UnsignedRead.the-variants as Unsigned
 use Rattle.command.specs.declared.Command.{Command}
-use Rattle.command.specs.declared.Command.the-variants.{Nothing, Home, Stop, Estop, MoveTo, MoveVel, Get, Set, Storepos, StoreposAt, StoreposCurrent, Warnings, WarningsClear, ParkingState, Park, Unpark, Echo}
+use Rattle.command.specs.declared.forms.Form.{Form}
+use Rattle.command.specs.declared.kinds.Data.{Data}
+use Rattle.command.specs.declared.kinds.Data.the-variants as Data
+use Rattle.command.specs.Forms.{formOf}
+use Rattle.command.specs.Commands.{demands, isWords, echoOf}
 use Rattle.phrase.specs.declared.WordsRead.{WordsRead}
-use Rattle.phrase.specs.Reading.{readCommand, echoOf}
+use Rattle.phrase.specs.Reading.{readCommand}
 use Rattle.line.specs.declared.Frame.{Frame}
 use Rattle.line.specs.declared.Frame.the-variants as Frame
 use Rattle.line.specs.declared.LineRead.{LineRead}
@@ -27,7 +31,7 @@ use Rattle.line.proofs.Frames.{content-fits}
 use Rattle.device.specs.declared.Device.{Device}
 use Rattle.device.specs.Good.{good}
 use Rattle.reply.specs.Data.{echoed}
-use Rattle.view.specs.Data.{dataOf}
+use Rattle.view.specs.Data.{textOf, dataOf}
 use Rattle.carriage.specs.declared.Answer.{Answer}
 use Rattle.carriage.specs.Step.{Stepped, Gives, silent, concerns, addressed, silence, respond, step}
 
@@ -40,25 +44,19 @@ unfolding silent
 silent-gives n d b e = record { result = e; left = refl }
 
 -- an echo's words are looked at by the echo alone
-pub echo-same : (d : Device) (k : ℕ) (vs ws : List (List ℕ)) (c : Command) → ws ≡ drop 2 vs → dataOf d k ws c ≡ dataOf d k (echoOf c vs) c
+pub echo-same : (d : Device) (k : ℕ) (vs ws : List (List ℕ)) (c : Command) {f : Form} {x : Data} → f ≡ formOf c → x ≡ demands c .reply
+    → ws ≡ drop 2 vs → textOf d k ws f x ≡ dataOf d k (echoOf c vs) c
 unfolding dataOf echoOf
-echo-same d k vs ws Nothing e = refl
-echo-same d k vs ws Home e = refl
-echo-same d k vs ws Stop e = refl
-echo-same d k vs ws Estop e = refl
-echo-same d k vs ws (MoveTo t) e = refl
-echo-same d k vs ws (MoveVel v) e = refl
-echo-same d k vs ws (Get s) e = refl
-echo-same d k vs ws (Set s n) e = refl
-echo-same d k vs ws (Storepos n) e = refl
-echo-same d k vs ws (StoreposAt n p) e = refl
-echo-same d k vs ws (StoreposCurrent n) e = refl
-echo-same d k vs ws Warnings e = refl
-echo-same d k vs ws WarningsClear e = refl
-echo-same d k vs ws ParkingState e = refl
-echo-same d k vs ws Park e = refl
-echo-same d k vs ws Unpark e = refl
-echo-same d k vs ws Echo e = ap echoed e
+echo-same d k vs ws c p q e = rw (p, q) (go (demands c .reply))
+  where
+    go : (x : Data) → textOf d k ws (formOf c) x ≡ textOf d k (cond (isWords x) (drop 2 vs) []) (formOf c) x
+    go Data.Nought = refl
+    go Data.Values = refl
+    go Data.Stored = refl
+    go Data.Position = refl
+    go Data.Active = refl
+    go Data.Parked = refl
+    go Data.Words = ap echoed e
 
 -- the words behind a command's first two, which an echo carries
 pub behind-two : (l : List (List ℕ)) (skip : ℕ) → drop (skip + 2) l ≡ drop 2 (drop skip l)

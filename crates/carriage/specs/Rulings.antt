@@ -4,6 +4,7 @@ use mathlib.Core.Bool.{Bool, cond}
 use Prim.Native.Nat.{ℕ}
 use lib.Dec.{eqb}
 use Rattle.laws.specs.Refusals.{NOTMINE}
+use Rattle.command.specs.Commands.{demands}
 use Rattle.phrase.specs.declared.WordsRead.{WordsRead}
 use Rattle.phrase.specs.declared.WordsRead.the-variants as Words
 use Rattle.line.specs.declared.LineRead.{LineRead}
@@ -19,7 +20,7 @@ use Rattle.carriage.specs.Step.{concerns, wantsSum}
 -- the reader's 10 or 11, or the first refusal that its command meets, or none
 abbrev pub ruleWords : Device → ℕ → ℕ → WordsRead → Ruling
 ruleWords d k skip (Words.Refused n) = Rejected k n
-ruleWords d k skip (Words.Command c) = cond (eqb (refusal d k c) 0) (Accepted k skip c) (Rejected k (refusal d k c))
+ruleWords d k skip (Words.Command c) = cond (eqb (refusal d k c) 0) (Accepted k skip c (demands c)) (Rejected k (refusal d k c))
 
 -- the reader's 4; or 5 where the line does not concern the device; or what its words come to
 abbrev pub rule : Device → LineRead → Ruling

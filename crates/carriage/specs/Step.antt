@@ -9,9 +9,9 @@ use lib.ListN.{length, drop}
 use Rattle.laws.specs.Refusals.{_when_, firstOf, NOROOM, BADSTATE, NOTMINE}
 use Rattle.units.specs.Units.{place}
 use Rattle.command.specs.declared.Command.{Command}
+use Rattle.command.specs.Commands.{echoOf}
 use Rattle.phrase.specs.declared.WordsRead.{WordsRead}
 use Rattle.phrase.specs.declared.WordsRead.the-variants as Words
-use Rattle.phrase.specs.Reading.{echoOf}
 use Rattle.line.specs.declared.LineRead.{LineRead}
 use Rattle.line.specs.declared.LineRead.the-variants.{Silent, Addressed}
 use Rattle.line.specs.Reading.{readLine, wordsOf}

@@ -5,7 +5,7 @@ ghost use mathlib.Core.Bool.{true};
 ghost use Prim.Native.Nat.{_+_, _≤_, _<_};
 ghost use lib.ListN.{length, drop};
 ghost use Rattle.words.specs.Cutting.{cut};
-ghost use Rattle.phrase.specs.Reading.{echoOf};
+ghost use Rattle.command.specs.Commands.{echoOf, demands};
 ghost use Rattle.line.specs.Reading.{readWords};
 ghost use Rattle.device.specs.Good.{good as goodOf};
 ghost use Rattle.rules.specs.Refusals.{refusal as refusalOf};
@@ -16,6 +16,8 @@ ghost use Rattle.view.specs.Data.{dataOf};
 ghost use Rattle.carriage.specs.Step.{Replied, Gives, concerns as concernsOf, respond, step as stepOf};
 ghost use Rattle.carriage.specs.Rulings.{headingOf, ruleWords, rule as ruleOf};
 use command::Command;
+use command::kinds::Data;
+use command::kinds::Demands;
 use device::Device;
 use device::Outcome;
 use laws::ACCEPTED;
@@ -30,7 +32,6 @@ use reply::LONGEST_REPLY;
 use reply::put_end;
 use reply::put_head;
 use rules::effects::next;
-use rules::refusals::refusal;
 use units::Number;
 
 // The answer to a line: the number, the reply's length, and the next record.
@@ -41,11 +42,11 @@ pub struct Answer {
 }
 
 // What a line comes to, before anything is written: a silence; a rejection, with its axis; or a command that meets no refusal,
-// with its axis and how many words stand before its own.
+// with its axis, how many words stand before its own, and what it demands.
 pub enum Ruling {
     Silent(u8),
     Rejected(u64, u8),
-    Accepted(u64, usize, Command),
+    Accepted(u64, usize, Command, Demands),
 }
 
 // What a reply has of its record besides the data: the head, and whether a checksum is wanted.
@@ -88,15 +89,25 @@ fn put_acceptance(
     d: Device,
     k: u64,
     c: Command,
+    x: Data,
     s: &[u8],
     skip: usize,
     reply: &mut [u8],
 ) -> usize
-    requires { ⌜ (longestReply ≤ length (now reply)) × (h .head .axis < 10) × (goodOf d ≡ true) × (refusalOf d k c ≡ 0) × (length (now s) ≤ 78) × (skip ≤ 2) ⌝ }
+    requires { ⌜ (longestReply ≤ length (now reply)) × (h .head .axis < 10) × (goodOf d ≡ true) × (refusalOf d k c ≡ 0) × (length (now s) ≤ 78) × (skip ≤ 2) × (x ≡ demands c .reply) ⌝ }
     ensures { λ r. ⌜ Replied (replyText (h .head) (h .sum) (dataOf d k (echoOf c (drop skip (cut (now (s .entry))))) c)) (now (reply .entry)) r (now (reply .exit)) ⌝ }
 {
     let data = put_head(reply, 0, h.head);
-    let end = view::commands::put_data(reply, data, d, k, c, s, words::past_words(s, skip + 2));
+    let end = view::data::put_data(
+        reply,
+        data,
+        d,
+        k,
+        c.form(),
+        x,
+        s,
+        words::past_words(s, skip + 2),
+    );
     put_end(reply, end, h.sum)
 }
 
@@ -117,11 +128,12 @@ fn rule_words(d: Device, k: u64, skip: usize, w: WordsRead) -> Ruling
     match w {
         WordsRead::Refused(n) => Ruling::Rejected(k, n),
         WordsRead::Command(c) => {
-            let n = refusal(d, k, c);
-            if n == 0 {
-                Ruling::Accepted(k, skip, c)
+            let x = rules::refusals::rule(d, k, c);
+            let demands = x.demands;
+            if x.number == 0 {
+                Ruling::Accepted(k, skip, c, demands)
             } else {
-                Ruling::Rejected(k, n)
+                Ruling::Rejected(k, x.number)
             }
         }
     }
@@ -154,13 +166,14 @@ fn carry_out(d: Device, x: Ruling, s: &[u8], reply: &mut [u8]) -> Answer
             let length = put_rejection(heading_of(d, k, false), n, reply);
             answer_of(d, n, length)
         }
-        Ruling::Accepted(k, skip, c) => {
-            if axis::commands::only_shows(c) {
-                let length = put_acceptance(heading_of(d, k, true), d, k, c, s, skip, reply);
+        Ruling::Accepted(k, skip, c, y) => {
+            let z = y.reply;
+            if y.shows {
+                let length = put_acceptance(heading_of(d, k, true), d, k, c, z, s, skip, reply);
                 answer_of(d, ACCEPTED, length)
             } else {
                 let after = next(d, k, c);
-                let length = put_acceptance(heading_of(after, k, true), d, k, c, s, skip, reply);
+                let length = put_acceptance(heading_of(after, k, true), d, k, c, z, s, skip, reply);
                 answer_of(after, ACCEPTED, length)
             }
         }

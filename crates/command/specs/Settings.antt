@@ -63,10 +63,6 @@ deviceSettings = CommAddress ∷ CommAlert ∷ CommChecksum ∷ SystemAccess ∷
 unfoldable pub nameOf : Setting → List ℕ
 nameOf s = about s .name
 
-abbrev pub ofDevice : Setting → Bool
-ofDevice (OfAxis s) = false
-ofDevice (OfDevice s) = true
-
 abbrev isNever : Writing → Bool
 isNever Always = false
 isNever AtRest = false

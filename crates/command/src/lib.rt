@@ -1,7 +1,5 @@
 // What can be asked of the carriage: document 01's table of commands and its table of settings, as types.
-// The spelling of each is in the crates above.
-ghost use mathlib.Core.Path.{_≡_};
-ghost use Rattle.command.specs.Settings.{aboutAxis, aboutDevice, about, readOnly, onlyAtRest, ofDevice};
+// What is constant of a command is in kinds.rt, what a command carries in forms.rt, the settings' table in settings.rt.
 use units::Number;
 use units::Position;
 use units::Speed;
@@ -51,181 +49,39 @@ pub enum Target {
     Stored(Number),
 }
 
-// The rows of document 01's table of commands. The words of an echo stand beside the command, in its line.
-pub enum Command {
+// The commands of the scope "axis". The rows of document 01's table, in its order.
+pub enum AxisCommand {
     Nothing,
     Home,
     Stop,
     Estop,
     MoveTo(Target),
     MoveVel(Speed),
-    Get(Setting),
-    Set(Setting, Number),
+    Get(AxisSetting),
+    Set(AxisSetting, Number),
     Storepos(Number),
     StoreposAt(Number, Position),
     StoreposCurrent(Number),
     Warnings,
     WarningsClear,
+}
+
+// The commands of the scope "device". The words of an echo stand beside the command, in its line.
+pub enum DeviceCommand {
+    Get(DeviceSetting),
+    Set(DeviceSetting, Number),
     ParkingState,
     Park,
     Unpark,
     Echo,
 }
 
-impl AxisSetting {
-    fn get_access(self) -> u8
-        ensures { λ r. ⌜ r ≡ aboutAxis self .get ⌝ }
-    {
-        match self {
-            AxisSetting::Pos => 1,
-            AxisSetting::LimitMin => 1,
-            AxisSetting::LimitMax => 1,
-            AxisSetting::MaxSpeed => 1,
-            AxisSetting::Accel => 1,
-            AxisSetting::DriverCurrentMax => 1,
-            AxisSetting::DriverCurrentRun => 1,
-            AxisSetting::DriverCurrentHold => 1,
-            AxisSetting::DriverDir => 2,
-            AxisSetting::EncoderIndexCount => 1,
-        }
-    }
-
-    fn set_access(self) -> u8
-        ensures { λ r. ⌜ r ≡ aboutAxis self .set ⌝ }
-    {
-        match self {
-            AxisSetting::Pos => 1,
-            AxisSetting::LimitMin => 1,
-            AxisSetting::LimitMax => 1,
-            AxisSetting::MaxSpeed => 1,
-            AxisSetting::Accel => 1,
-            AxisSetting::DriverCurrentMax => 1,
-            AxisSetting::DriverCurrentRun => 1,
-            AxisSetting::DriverCurrentHold => 1,
-            AxisSetting::DriverDir => 2,
-            AxisSetting::EncoderIndexCount => 2,
-        }
-    }
-
-    fn writing(self) -> Writing
-        ensures { λ r. ⌜ r ≡ aboutAxis self .writing ⌝ }
-    {
-        match self {
-            AxisSetting::Pos => Writing::AtRest,
-            AxisSetting::LimitMin => Writing::AtRest,
-            AxisSetting::LimitMax => Writing::AtRest,
-            AxisSetting::MaxSpeed => Writing::Always,
-            AxisSetting::Accel => Writing::Always,
-            AxisSetting::DriverCurrentMax => Writing::Never,
-            AxisSetting::DriverCurrentRun => Writing::Always,
-            AxisSetting::DriverCurrentHold => Writing::Always,
-            AxisSetting::DriverDir => Writing::AtRest,
-            AxisSetting::EncoderIndexCount => Writing::Always,
-        }
-    }
+// A command by its scope.
+pub enum Command {
+    OfAxes(AxisCommand),
+    OfDevice(DeviceCommand),
 }
 
-impl DeviceSetting {
-    fn get_access(self) -> u8
-        ensures { λ r. ⌜ r ≡ aboutDevice self .get ⌝ }
-    {
-        match self {
-            DeviceSetting::CommAddress => 1,
-            DeviceSetting::CommAlert => 1,
-            DeviceSetting::CommChecksum => 1,
-            DeviceSetting::SystemAccess => 1,
-            DeviceSetting::DeviceId => 1,
-            DeviceSetting::SystemAxisCount => 1,
-        }
-    }
-
-    fn set_access(self) -> u8
-        ensures { λ r. ⌜ r ≡ aboutDevice self .set ⌝ }
-    {
-        match self {
-            DeviceSetting::CommAddress => 1,
-            DeviceSetting::CommAlert => 1,
-            DeviceSetting::CommChecksum => 1,
-            DeviceSetting::SystemAccess => 1,
-            DeviceSetting::DeviceId => 1,
-            DeviceSetting::SystemAxisCount => 1,
-        }
-    }
-
-    fn writing(self) -> Writing
-        ensures { λ r. ⌜ r ≡ aboutDevice self .writing ⌝ }
-    {
-        match self {
-            DeviceSetting::CommAddress => Writing::Always,
-            DeviceSetting::CommAlert => Writing::Always,
-            DeviceSetting::CommChecksum => Writing::Always,
-            DeviceSetting::SystemAccess => Writing::Always,
-            DeviceSetting::DeviceId => Writing::Never,
-            DeviceSetting::SystemAxisCount => Writing::Never,
-        }
-    }
-}
-
-impl Setting {
-    // The access that it takes to read it.
-    pub fn get_access(self) -> u8
-        ensures { λ r. ⌜ r ≡ about self .get ⌝ }
-    {
-        match self {
-            Setting::OfAxis(s) => s.get_access(),
-            Setting::OfDevice(s) => s.get_access(),
-        }
-    }
-
-    // The access that it takes to write it.
-    pub fn set_access(self) -> u8
-        ensures { λ r. ⌜ r ≡ about self .set ⌝ }
-    {
-        match self {
-            Setting::OfAxis(s) => s.set_access(),
-            Setting::OfDevice(s) => s.set_access(),
-        }
-    }
-
-    // When it may be written.
-    fn writing(self) -> Writing
-        ensures { λ r. ⌜ r ≡ about self .writing ⌝ }
-    {
-        match self {
-            Setting::OfAxis(s) => s.writing(),
-            Setting::OfDevice(s) => s.writing(),
-        }
-    }
-
-    // May it never be written?
-    pub fn read_only(self) -> bool
-        ensures { λ r. ⌜ r ≡ readOnly self ⌝ }
-    {
-        match self.writing() {
-            Writing::Always => false,
-            Writing::AtRest => false,
-            Writing::Never => true,
-        }
-    }
-
-    // May it be written only while its axis is at rest?
-    pub fn only_at_rest(self) -> bool
-        ensures { λ r. ⌜ r ≡ onlyAtRest self ⌝ }
-    {
-        match self.writing() {
-            Writing::Always => false,
-            Writing::AtRest => true,
-            Writing::Never => false,
-        }
-    }
-
-    // Is it a setting of the device, and not of an axis?
-    pub fn of_device(self) -> bool
-        ensures { λ r. ⌜ r ≡ ofDevice self ⌝ }
-    {
-        match self {
-            Setting::OfAxis(_) => false,
-            Setting::OfDevice(_) => true,
-        }
-    }
-}
+pub mod forms;
+pub mod kinds;
+pub mod settings;

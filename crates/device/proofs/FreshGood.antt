@@ -7,13 +7,14 @@ use lib.IntN.{pos}
 use lib.ListN.{take, replicate}
 use Rattle.laws.specs.Lists.{fold, all}
 use Rattle.laws.proofs.Bools.{and-left, and-right, and-both}
-use Rattle.units.specs.Units.{number, within}
+use Rattle.units.specs.Units.{number}
 use Rattle.command.specs.Settings.{axisSettings, deviceSettings}
 use Rattle.settings.specs.Record.{freshSettings}
-use Rattle.settings.specs.Settings.{deviceRange}
+use Rattle.settings.specs.Types.{Number, CommAddress, DeviceId, SystemAxisCount}
+use Rattle.settings.specs.Settings.{deviceAllows}
 use Rattle.axis.specs.Record.{freshAxis}
 use Rattle.axis.specs.Good.{goodAxis}
-use Rattle.device.specs.Types.{Number, CommAddress, DeviceId, SystemAxisCount, Outcome}
+use Rattle.device.specs.declared.Outcome.{Outcome}
 use Rattle.device.specs.Record.{many, axesOf, fresh}
 use Rattle.device.specs.Good.{good, mayBeFresh, askFresh}
 
@@ -35,9 +36,9 @@ module _ (address : Number) (count : ℕ) (id : Number) where
   new-good : mayBeFresh address count id ≡ true → good (fresh address count id) ≡ true
   unfolding mayBeFresh good fresh fold deviceSettings axesOf many
   new-good h =
-      let a = within (deviceRange CommAddress) (address .0) in
-      let n = within (deviceRange SystemAxisCount) (pos count) in
-      let i = within (deviceRange DeviceId) (id .0) in
+      let a = deviceAllows CommAddress address in
+      let n = deviceAllows SystemAxisCount (number (pos count)) in
+      let i = deviceAllows DeviceId id in
       simp (
         and-left a (n && i) h,
         and-left n i (and-right a (n && i) h),

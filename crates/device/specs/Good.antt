@@ -5,16 +5,18 @@ use Prim.Native.Nat.{ℕ}
 use lib.IntN.{pos}
 use Rattle.laws.specs.Lists.{all, any}
 use Rattle.laws.specs.Refusals.{BADSTATE, ACCEPTED}
-use Rattle.units.specs.Units.{number, within}
+use Rattle.units.specs.Units.{number}
 use Rattle.command.specs.Settings.{deviceSettings}
-use Rattle.settings.specs.Settings.{deviceRange}
+use Rattle.settings.specs.Types.{Number, DeviceSetting, CommAddress, DeviceId, SystemAxisCount}
+use Rattle.settings.specs.Settings.{deviceAllows}
 use Rattle.axis.specs.Record.{moving}
 use Rattle.axis.specs.Good.{goodAxis}
-use Rattle.device.specs.Types.{Number, DeviceSetting, CommAddress, DeviceId, SystemAxisCount, Device, Outcome}
+use Rattle.device.specs.declared.Device.{Device}
+use Rattle.device.specs.declared.Outcome.{Outcome}
 use Rattle.device.specs.Record.{value, axesOf, fresh}
 
 abbrev pub inRange : Device → DeviceSetting → Bool
-inRange d s = within (deviceRange s) (value s d .0)
+inRange d s = deviceAllows s (value s d)
 
 -- "A record is good if, for the device and the axes up to the count, all settings are in range, ...
 -- and no axis is in motion on a parked device."
@@ -24,8 +26,7 @@ good d = all (inRange d) deviceSettings && (all goodAxis (axesOf d 0) && not (d 
 -- "A fresh record is asked for with address, axis count and device id"
 unfoldable pub mayBeFresh : Number → ℕ → Number → Bool
 mayBeFresh address count id =
-    within (deviceRange CommAddress) (address .0) &&
-    (within (deviceRange SystemAxisCount) (pos count) && within (deviceRange DeviceId) (id .0))
+    deviceAllows CommAddress address && (deviceAllows SystemAxisCount (number (pos count)) && deviceAllows DeviceId id)
 
 -- the record beside the 21 is of no account: it is always the same
 unfoldable pub askFresh : Number → ℕ → Number → Outcome

@@ -1,4 +1,3 @@
 pub mod Each
-pub mod Types
 pub mod Record
 pub mod Good

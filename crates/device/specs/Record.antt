@@ -9,7 +9,10 @@ use lib.ListN.{take, drop, replicate}
 use Rattle.laws.specs.Lists.{changeFrom}
 use Rattle.units.specs.Units.{number}
 use Rattle.axis.specs.Record.{freshAxis}
-use Rattle.device.specs.Types.{Number, DeviceSetting, CommAddress, CommAlert, CommChecksum, SystemAccess, DeviceId, SystemAxisCount, Axis, Comm, Device}
+use Rattle.settings.specs.Types.{Number, DeviceSetting, CommAddress, CommAlert, CommChecksum, SystemAccess, DeviceId, SystemAxisCount}
+use Rattle.axis.specs.declared.Axis.{Axis}
+use Rattle.device.specs.declared.Comm.{Comm}
+use Rattle.device.specs.declared.Device.{Device}
 
 -- the records, made anew from their parts
 abbrev pub comm : Number → Number → Number → Comm

@@ -12,14 +12,14 @@ use crate::Outcome;
 use command::DeviceSetting;
 use laws::ACCEPTED;
 use laws::BADSTATE;
-use settings::device_range;
+use settings::device_allows;
 use units::Number;
 
 impl Device {
     fn in_range(self, s: DeviceSetting) -> bool
         ensures { λ r. ⌜ r ≡ inRange self s ⌝ }
     {
-        self.value(s).within(device_range(s))
+        device_allows(s, self.value(s))
     }
 
     fn all_in_range(self) -> bool
@@ -72,8 +72,8 @@ impl Device {
 fn may_be_fresh(address: Number, count: u8, id: Number) -> bool
     ensures { λ r. ⌜ r ≡ mayBeFresh address count id ⌝ }
 {
-    let a = address.within(device_range(DeviceSetting::CommAddress));
-    let b = Number::of_count(count).within(device_range(DeviceSetting::SystemAxisCount));
-    let c = id.within(device_range(DeviceSetting::DeviceId));
+    let a = device_allows(DeviceSetting::CommAddress, address);
+    let b = device_allows(DeviceSetting::SystemAxisCount, Number::of_count(count));
+    let c = device_allows(DeviceSetting::DeviceId, id);
     a & (b & c)
 }

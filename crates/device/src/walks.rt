@@ -12,18 +12,18 @@ ghost use Rattle.axis.specs.Warnings.{active as activeOf};
 ghost use Rattle.device.specs.Each.{passes as passesOf, changed as changedBy, stretchOf, covers as coversAt};
 use axis::Axis;
 use axis::reports::Report;
-use command::Command;
+use command::AxisCommand;
 use units::lesser;
 
 // What is asked of an axis.
 pub enum Test {
-    Permits(Command),
+    Permits(AxisCommand),
     Takes(Report),
 }
 
 // What is done to an axis.
 pub enum Change {
-    Obey(Command),
+    Obey(AxisCommand),
     Take(Report),
 }
 

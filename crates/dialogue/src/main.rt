@@ -1,8 +1,9 @@
 // A host talks to a device: one command of each row of the table, written, obeyed, and its reply read back.
 // Each line printed is the command's line as it was written, with a checksum every other time, and what the host understood.
+use command::AxisCommand;
 use command::AxisSetting;
 use command::Command;
-use command::Setting;
+use command::DeviceCommand;
 use command::Target;
 use device::Device;
 use host_reader::Message;
@@ -25,35 +26,46 @@ fn target(k: u8) -> Target {
     }
 }
 
-fn early(k: u8) -> Command {
+fn early(k: u8) -> AxisCommand {
     match k {
-        0 => Command::Nothing,
-        1 => Command::Home,
-        4 => Command::MoveVel(Speed(-153600)),
-        7 => Command::StoreposAt(Number(16), Position(305381)),
-        9 => Command::Stop,
-        10 => Command::Estop,
-        _ => Command::MoveTo(target(k)),
+        0 => AxisCommand::Nothing,
+        1 => AxisCommand::Home,
+        4 => AxisCommand::MoveVel(Speed(-153600)),
+        7 => AxisCommand::StoreposAt(Number(16), Position(305381)),
+        9 => AxisCommand::Stop,
+        10 => AxisCommand::Estop,
+        _ => AxisCommand::MoveTo(target(k)),
     }
 }
 
-fn late(k: u8) -> Command {
+fn late(k: u8) -> AxisCommand {
     match k {
-        12 => Command::Get(Setting::OfAxis(AxisSetting::MaxSpeed)),
-        13 => Command::Set(Setting::OfAxis(AxisSetting::Pos), Number(777)),
-        14 => Command::Storepos(Number(16)),
-        15 => Command::StoreposCurrent(Number(1)),
-        16 => Command::Warnings,
-        17 => Command::WarningsClear,
-        18 => Command::ParkingState,
-        19 => Command::Park,
-        20 => Command::Unpark,
-        _ => Command::Echo,
+        12 => AxisCommand::Get(AxisSetting::MaxSpeed),
+        13 => AxisCommand::Set(AxisSetting::Pos, Number(777)),
+        14 => AxisCommand::Storepos(Number(16)),
+        15 => AxisCommand::StoreposCurrent(Number(1)),
+        16 => AxisCommand::Warnings,
+        _ => AxisCommand::WarningsClear,
+    }
+}
+
+fn of_device(k: u8) -> DeviceCommand {
+    match k {
+        18 => DeviceCommand::ParkingState,
+        19 => DeviceCommand::Park,
+        20 => DeviceCommand::Unpark,
+        _ => DeviceCommand::Echo,
     }
 }
 
 fn command(k: u8) -> Command {
-    if k < 12 { early(k) } else { late(k) }
+    if k < 12 {
+        return Command::OfAxes(early(k));
+    }
+    if k < 18 {
+        return Command::OfAxes(late(k));
+    }
+    Command::OfDevice(of_device(k))
 }
 
 fn axis(k: u8) -> u64 {

@@ -1,4 +1,4 @@
-pub mod Texts
-pub mod PhraseWords
-pub mod Fits
+pub mod RowTexts
+pub mod RowWalks
+pub mod Unfit
 pub mod LineTexts

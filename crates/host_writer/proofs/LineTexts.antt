@@ -16,10 +16,10 @@ use Rattle.laws.proofs.Order.{lt-or-le}
 use Rattle.laws.proofs.Spaced.{trail, spaced-trail}
 use Rattle.numbers.specs.Decimal.{digits, twoDigits}
 use Rattle.words.specs.Cutting.{cut}
-use Rattle.phrase.specs.Types.{Command}
+use Rattle.command.specs.declared.Command.{Command}
+use Rattle.command.specs.Commands.{commandWords}
 use Rattle.buffer.specs.Wrote.{Wrote}
 use Rattle.buffer.proofs.Wrote.{_▸_, wrote-room, wrote-read}
-use Rattle.host_writer.specs.Rows.{commandWords}
 use Rattle.host_writer.specs.Writing.{lineWords, lineEnd, lineText, unspellable, writerRefusal, outcome, writeLine}
 
 -- what is left of a write where the buffer is full before its end

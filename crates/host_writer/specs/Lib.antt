@@ -1,4 +1,3 @@
+pub mod Names
 pub mod Rows
-pub mod Places
-pub mod Phrases
 pub mod Writing

@@ -1,35 +1,40 @@
--- The words that the host writes for a command, row by row of document 01's table of commands.
--- Numbers are decimal; the words of an echo stand beside the command.
-use mathlib.Core.List.{List, [], _∷_}
+-- How the code's text of the table of commands is read: words, parted into rows at each `;`, with names for what a command carries.
+-- The proof of put_command shows that its rows, filled so, are those of document 01's table (command/specs/Commands).
+use mathlib.Core.Bool.{cond}
+use mathlib.Core.List.{List, [], _∷_, _++_}
 use Prim.Native.Nat.{ℕ}
-use Rattle.laws.specs.Text.{text}
+use lib.ListN.{getD}
+use Rattle.laws.specs.Text.{text, same}
+use Rattle.words.specs.Find.{Entry, _means_, meaningOf}
 use Rattle.numbers.specs.Decimal.{decimal}
 use Rattle.command.specs.Settings.{nameOf}
-use Rattle.phrase.specs.Types.{Target, Abs, Rel, Min, Max, Stored, Command, Nothing, Home, Stop, Estop, MoveTo, MoveVel, Get, Set, Storepos, StoreposAt, StoreposCurrent, Warnings, WarningsClear, ParkingState, Park, Unpark, Echo}
+use Rattle.command.specs.declared.forms.Form.{Form}
 
-abbrev pub targetWords : Target → List (List ℕ)
-targetWords (Abs p) = text "abs" ∷ decimal (p .0) ∷ []
-targetWords (Rel p) = text "rel" ∷ decimal (p .0) ∷ []
-targetWords Min = text "min" ∷ []
-targetWords Max = text "max" ∷ []
-targetWords (Stored n) = text "stored" ∷ decimal (n .0) ∷ []
+-- a word put before the first row
+unfoldable pub lengthen : List ℕ → List (List (List ℕ)) → List (List (List ℕ))
+lengthen w [] = (w ∷ []) ∷ []
+lengthen w (r ∷ rs) = (w ∷ r) ∷ rs
 
--- the words of a command; es are those of an echo
-abbrev pub commandWords : Command → List (List ℕ) → List (List ℕ)
-commandWords Nothing es = []
-commandWords Home es = text "home" ∷ []
-commandWords Stop es = text "stop" ∷ []
-commandWords Estop es = text "estop" ∷ []
-commandWords (MoveTo t) es = text "move" ∷ targetWords t
-commandWords (MoveVel v) es = text "move" ∷ text "vel" ∷ decimal (v .0) ∷ []
-commandWords (Get s) es = text "get" ∷ nameOf s ∷ []
-commandWords (Set s n) es = text "set" ∷ nameOf s ∷ decimal (n .0) ∷ []
-commandWords (Storepos n) es = text "tools" ∷ text "storepos" ∷ decimal (n .0) ∷ []
-commandWords (StoreposAt n p) es = text "tools" ∷ text "storepos" ∷ decimal (n .0) ∷ decimal (p .0) ∷ []
-commandWords (StoreposCurrent n) es = text "tools" ∷ text "storepos" ∷ decimal (n .0) ∷ text "current" ∷ []
-commandWords Warnings es = text "warnings" ∷ []
-commandWords WarningsClear es = text "warnings" ∷ text "clear" ∷ []
-commandWords ParkingState es = text "tools" ∷ text "parking" ∷ text "state" ∷ []
-commandWords Park es = text "tools" ∷ text "parking" ∷ text "park" ∷ []
-commandWords Unpark es = text "tools" ∷ text "parking" ∷ text "unpark" ∷ []
-commandWords Echo es = text "tools" ∷ text "echo" ∷ es
+unfoldable pub rows : List (List ℕ) → List (List (List ℕ))
+rows [] = [] ∷ []
+rows (w ∷ ws) = cond (same w (text ";")) ([] ∷ rows ws) (lengthen w (rows ws))
+
+unfoldable pub rowOf : ℕ → List (List ℕ) → List (List ℕ)
+rowOf k ws = getD (rows ws) k []
+
+-- what stands for these names: its numbers, its setting, and the words es that it carries
+abbrev pub carried : Form → List (List ℕ) → List (Entry (List (List ℕ)))
+carried f es =
+    text "N" means (decimal (f .first .0) ∷ [])
+    ∷ text "P" means (decimal (f .second .0) ∷ [])
+    ∷ text "SETTING" means (nameOf (f .setting) ∷ [])
+    ∷ text "WORDS" means es
+    ∷ []
+
+-- any other word stands for itself
+unfoldable pub wordsFor : Form → List (List ℕ) → List ℕ → List (List ℕ)
+wordsFor f es w = meaningOf (w ∷ []) w (carried f es)
+
+unfoldable pub filledRow : Form → List (List ℕ) → List (List ℕ) → List (List ℕ)
+filledRow f es [] = []
+filledRow f es (w ∷ ws) = wordsFor f es w ++ filledRow f es ws

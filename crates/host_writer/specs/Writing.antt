@@ -1,6 +1,6 @@
 -- What the host's command writer writes, and what it refuses.
 -- "two address digits, the axis digit, single spaces, decimal numbers, a checksum if asked (upper case) and LF, into 80 bytes or more"
-use mathlib.Core.Bool.{Bool, false, cond, not, _||_}
+use mathlib.Core.Bool.{Bool, cond, not, _&&_, _||_}
 use mathlib.Core.List.{List, [], _∷_, _++_}
 use Prim.Native.Nat.{ℕ}
 use lib.Dec.{eqb, ltb}
@@ -13,9 +13,8 @@ use Rattle.numbers.specs.Decimal.{digits, twoDigits}
 use Rattle.numbers.specs.Spelling.{highestAddress}
 use Rattle.words.specs.Cutting.{cut}
 use Rattle.line.specs.Spelling.{longestLine}
-use Rattle.command.specs.Settings.{readOnly}
-use Rattle.phrase.specs.Types.{Command, Nothing, Home, Stop, Estop, MoveTo, MoveVel, Get, Set, Storepos, StoreposAt, StoreposCurrent, Warnings, WarningsClear, ParkingState, Park, Unpark, Echo}
-use Rattle.host_writer.specs.Rows.{commandWords}
+use Rattle.command.specs.declared.Command.{Command}
+use Rattle.command.specs.Commands.{demands, carriesWords, commandWords}
 use Rattle.host_reader.specs.Reading.{dataByte}
 use Rattle.host_writer.specs.declared.Written.{Written}
 
@@ -34,23 +33,7 @@ lineText address axis c message sum =
 -- "a set of a read-only setting, or an echo message ... with a byte outside 32 to 126 or a colon".
 -- No number is one "the spelling cannot hold", since each has 32 bits.
 abbrev pub unfit : Command → List ℕ → Bool
-unfit Nothing message = false
-unfit Home message = false
-unfit Stop message = false
-unfit Estop message = false
-unfit (MoveTo t) message = false
-unfit (MoveVel v) message = false
-unfit (Get s) message = false
-unfit (Set s n) message = readOnly s
-unfit (Storepos n) message = false
-unfit (StoreposAt n p) message = false
-unfit (StoreposCurrent n) message = false
-unfit Warnings message = false
-unfit WarningsClear message = false
-unfit ParkingState message = false
-unfit Park message = false
-unfit Unpark message = false
-unfit Echo message = not (all dataByte message)
+unfit c message = demands c .barred || (carriesWords c && not (all dataByte message))
 
 unfoldable pub unspellable : ℕ → ℕ → Command → List ℕ → Bool
 unspellable address axis c message = ltb highestAddress address || ltb 9 axis || unfit c message

@@ -1,4 +1,4 @@
-// What the command writer answers, as a type. The code that writes stands in lines.rt, phrases.rt, wording.rt and writing.rt.
+// What the command writer answers, as a type. The code that writes stands in names.rt, rows.rt, lines.rt and writing.rt.
 // specs/Writing.antt says the line.
 
 // A refusal's number and length 0, or 0 and the line's length.
@@ -8,6 +8,6 @@ pub struct Written {
 }
 
 mod lines;
-pub mod phrases;
-pub mod wording;
+mod names;
+mod rows;
 pub mod writing;

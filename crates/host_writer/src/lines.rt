@@ -4,7 +4,7 @@ ghost use mathlib.Core.List.{_++_};
 ghost use Rattle.laws.specs.Text.{text, spaced};
 ghost use Rattle.buffer.specs.Wrote.{Wrote};
 ghost use Rattle.host_writer.specs.Writing.{lineWords, lineText};
-use crate::wording::put_command;
+use crate::rows::put_command;
 use buffer::put_byte;
 use buffer::put_number;
 use buffer::put_two;

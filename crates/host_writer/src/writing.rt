@@ -34,11 +34,11 @@ fn is_plain(s: &[u8]) -> bool
 fn is_unfit(c: Command, message: &[u8]) -> bool
     ensures { λ r. ⌜ r ≡ unfit c (now (message .entry)) ⌝ }
 {
-    match c {
-        Command::Set(s, _) => s.read_only(),
-        Command::Echo => !is_plain(message),
-        _ => false,
-    }
+    let d = c.form().demands();
+    let reply = d.reply;
+    let words = reply.words();
+    let plain = is_plain(message);
+    d.barred | (words & !plain)
 }
 
 fn is_unspellable(address: u64, axis: u64, c: Command, message: &[u8]) -> bool

@@ -6,7 +6,13 @@ use Prim.Native.String.{String}
 use lib.IntN.{pos}
 use Rattle.laws.specs.Text.{text}
 use Rattle.units.specs.Units.{minus, position, number}
-use Rattle.phrase.specs.Types.{OfAxis, Pos, DriverDir, OfDevice, CommAddress, CommAlert, Nothing, Home, MoveTo, Abs, Get, Set, StoreposCurrent, Echo}
+use Rattle.command.specs.declared.AxisSetting.the-variants.{Pos, DriverDir}
+use Rattle.command.specs.declared.DeviceSetting.the-variants.{CommAddress, CommAlert}
+use Rattle.command.specs.declared.Target.the-variants.{Abs}
+use Rattle.command.specs.declared.AxisCommand.the-variants.{Nothing, Home, MoveTo, Set, StoreposCurrent}
+use Rattle.command.specs.declared.DeviceCommand.the-variants.{Echo}
+use Rattle.command.specs.declared.DeviceCommand.the-variants as Device
+use Rattle.command.specs.declared.Command.the-variants.{OfAxes, OfDevice}
 use Rattle.phrase.specs.declared.WordsRead.the-variants.{Command, Refused}
 use Rattle.line.specs.declared.LineRead.{LineRead}
 use Rattle.line.specs.declared.LineRead.the-variants.{Silent, Addressed}
@@ -24,31 +30,31 @@ l is a = record { line = l; answer = a }
 
 abbrev pub table : List Case
 table =
-    "/\n" is Addressed 0 0 0 (Command Nothing)
+    "/\n" is Addressed 0 0 0 (Command (OfAxes Nothing))
     ∷ "/home" is Silent 1
     ∷ "home\n" is Silent 1
     ∷ "/home\r\r\n" is Silent 1
-    ∷ "/01 tools echo:8F\n" is Addressed 1 0 1 (Command Echo)
-    ∷ "/01 tools echo:8f\r\n" is Addressed 1 0 1 (Command Echo)
+    ∷ "/01 tools echo:8F\n" is Addressed 1 0 1 (Command (OfDevice Echo))
+    ∷ "/01 tools echo:8f\r\n" is Addressed 1 0 1 (Command (OfDevice Echo))
     ∷ "/01 tools echo:8E\n" is Silent 3
     ∷ "/a:b\n" is Silent 3
-    ∷ "/:00\n" is Addressed 0 0 0 (Command Nothing)
-    ∷ "/0x63 home\n" is Addressed 99 0 1 (Command Home)
+    ∷ "/:00\n" is Addressed 0 0 0 (Command (OfAxes Nothing))
+    ∷ "/0x63 home\n" is Addressed 99 0 1 (Command (OfAxes Home))
     ∷ "/0x64 home\n" is Silent 4
     ∷ "/-1\n" is Silent 4
     ∷ "/+1\n" is Silent 4
-    ∷ "/1 7 home\n" is Addressed 1 7 2 (Command Home)
+    ∷ "/1 7 home\n" is Addressed 1 7 2 (Command (OfAxes Home))
     ∷ "/1 12 home\n" is Addressed 1 0 1 (Refused 10)
     ∷ "/1 01 home\n" is Addressed 1 0 1 (Refused 10)
-    ∷ "/1 5\n" is Addressed 1 5 2 (Command Nothing)
-    ∷ "/1 1 get comm.alert\n" is Addressed 1 1 2 (Command (Get (OfDevice CommAlert)))
-    ∷ "/set driver.dir 1\n" is Addressed 0 0 0 (Command (Set (OfAxis DriverDir) (number (pos 1))))
-    ∷ "/01 set comm.address 5\n" is Addressed 1 0 1 (Command (Set (OfDevice CommAddress) (number (pos 5))))
-    ∷ "/move abs 305381\n" is Addressed 0 0 0 (Command (MoveTo (Abs (position (pos 305381)))))
-    ∷ "/move abs 305382\n" is Addressed 0 0 0 (Command (MoveTo (Abs (position (pos 305382)))))
+    ∷ "/1 5\n" is Addressed 1 5 2 (Command (OfAxes Nothing))
+    ∷ "/1 1 get comm.alert\n" is Addressed 1 1 2 (Command (OfDevice (Device.Get CommAlert)))
+    ∷ "/set driver.dir 1\n" is Addressed 0 0 0 (Command (OfAxes (Set DriverDir (number (pos 1)))))
+    ∷ "/01 set comm.address 5\n" is Addressed 1 0 1 (Command (OfDevice (Device.Set CommAddress (number (pos 5)))))
+    ∷ "/move abs 305381\n" is Addressed 0 0 0 (Command (OfAxes (MoveTo (Abs (position (pos 305381))))))
+    ∷ "/move abs 305382\n" is Addressed 0 0 0 (Command (OfAxes (MoveTo (Abs (position (pos 305382))))))
     ∷ "/set pos 2147483648\n" is Addressed 0 0 0 (Refused 11)
-    ∷ "/set pos 2147483647\n" is Addressed 0 0 0 (Command (Set (OfAxis Pos) (number (pos 2147483647))))
-    ∷ "/set pos -2147483648\n" is Addressed 0 0 0 (Command (Set (OfAxis Pos) (number (minus 2147483648))))
+    ∷ "/set pos 2147483647\n" is Addressed 0 0 0 (Command (OfAxes (Set Pos (number (pos 2147483647)))))
+    ∷ "/set pos -2147483648\n" is Addressed 0 0 0 (Command (OfAxes (Set Pos (number (minus 2147483648)))))
     ∷ "/get nothing now\n" is Addressed 0 0 0 (Refused 10)
     ∷ "/set deviceid x y\n" is Addressed 0 0 0 (Refused 10)
     ∷ "/set deviceid\n" is Addressed 0 0 0 (Refused 10)
@@ -56,11 +62,11 @@ table =
     ∷ "/tools\n" is Addressed 0 0 0 (Refused 10)
     ∷ "/tools parking\n" is Addressed 0 0 0 (Refused 11)
     ∷ "/tools parking x\n" is Addressed 0 0 0 (Refused 11)
-    ∷ "/tools storepos 1 current\n" is Addressed 0 0 0 (Command (StoreposCurrent (number (pos 1))))
+    ∷ "/tools storepos 1 current\n" is Addressed 0 0 0 (Command (OfAxes (StoreposCurrent (number (pos 1)))))
     ∷ "/warnings now\n" is Addressed 0 0 0 (Refused 11)
     ∷ "/2 nonsense\n" is Addressed 2 0 1 (Refused 10)
     ∷ "/move abs 0x\n" is Addressed 0 0 0 (Refused 11)
-    ∷ "/tools echo xxxxxxxxxxxxxxxxxxxxxxxxxxxxxxxxxxxxxxxxxxxxxxxxxxxxxxxxxxxxxxxxxxx\n" is Addressed 0 0 0 (Command Echo)
+    ∷ "/tools echo xxxxxxxxxxxxxxxxxxxxxxxxxxxxxxxxxxxxxxxxxxxxxxxxxxxxxxxxxxxxxxxxxxx\n" is Addressed 0 0 0 (Command (OfDevice Echo))
     ∷ "/tools echo xxxxxxxxxxxxxxxxxxxxxxxxxxxxxxxxxxxxxxxxxxxxxxxxxxxxxxxxxxxxxxxxxxxx\n" is Silent 2
     ∷ []
 

@@ -12,6 +12,7 @@ use borrow.Author.Tests.{lt-ltb, le-ltb}
 use Rattle.laws.specs.Text.{text}
 use Rattle.laws.proofs.Order.{lt-or-le}
 use Rattle.laws.proofs.Bools.{clash}
+use Rattle.laws.proofs.Each as Each
 use Rattle.numbers.specs.Spelling.{AddressWord, address}
 use Rattle.numbers.specs.Reading.{valueOf, readAddress}
 use Rattle.numbers.specs.declared.UnsignedRead.{UnsignedRead}
@@ -19,12 +20,15 @@ use Rattle.numbers.specs.declared.UnsignedRead.the-variants as Unsigned
 use Rattle.numbers.proofs.Value.{digit-value, digit-below, digit-of, none-below}
 use Rattle.numbers.proofs.Numbers.{unsigned-first, address-read, address-of}
 use Rattle.words.specs.Cutting.{cut, headWord, tailWords}
-use Rattle.phrase.specs.Types.{Command}
+use Rattle.words.proofs.Table.{by-entry}
+use Rattle.command.specs.declared.Command.{Command}
+use Rattle.command.specs.Commands.{echoOf}
 use Rattle.phrase.specs.Spelling.{Row}
-use Rattle.phrase.specs.Reading.{readCommand, echoOf}
+use Rattle.phrase.specs.Reading.{firsts, readCommand}
 use Rattle.phrase.specs.declared.WordsRead.{WordsRead}
 use Rattle.phrase.specs.declared.WordsRead.the-variants as Read
-use Rattle.phrase.proofs.Rows.{row-read, row-echo, row-of}
+use Rattle.phrase.proofs.Among.{_also_}
+use Rattle.phrase.proofs.Rows.{no-command, row-read, row-echo, row-of}
 use Rattle.line.specs.declared.Frame.{Frame}
 use Rattle.line.specs.declared.Frame.the-variants as Frame
 use Rattle.line.specs.declared.LineRead.the-variants.{Addressed}
@@ -36,30 +40,25 @@ use Rattle.line.proofs.Composed.{Parts, parts, parts-read, parts-of}
 -- ---- the words: address, axis, and those of the command
 
 -- no command's first word begins as a number or is an axis
-first-word : {ws : List (List ℕ)} {c : Command} {es : List (List ℕ)} → Row ws c es → (startsNumber (headWord ws) ≡ false)
-    × (axisDigit (headWord ws) ≡ 99)
-unfolding startsNumber axisDigit headWord text valueOf
-first-word Row.nothing = (refl, refl)
-first-word Row.home = (refl, refl)
-first-word Row.stop = (refl, refl)
-first-word Row.estop = (refl, refl)
-first-word (Row.move-abs h) = (refl, refl)
-first-word (Row.move-rel h) = (refl, refl)
-first-word (Row.move-vel h) = (refl, refl)
-first-word Row.move-min = (refl, refl)
-first-word Row.move-max = (refl, refl)
-first-word (Row.move-stored h) = (refl, refl)
-first-word Row.get = (refl, refl)
-first-word (Row.set r h) = (refl, refl)
-first-word (Row.storepos h) = (refl, refl)
-first-word (Row.storepos-at h k) = (refl, refl)
-first-word (Row.storepos-current h) = (refl, refl)
-first-word Row.warnings = (refl, refl)
-first-word Row.warnings-clear = (refl, refl)
-first-word Row.parking-state = (refl, refl)
-first-word Row.park = (refl, refl)
-first-word Row.unpark = (refl, refl)
-first-word Row.echo = (refl, refl)
+abbrev NoNumber : List ℕ → Type 0
+NoNumber w = (startsNumber w ≡ false) × (axisDigit w ≡ 99)
+
+read-first : (ws : List (List ℕ)) {c : Command} → readCommand ws ≡ Read.Command c → NoNumber (headWord ws)
+unfolding readCommand startsNumber axisDigit headWord text valueOf
+read-first [] e = (refl, refl)
+read-first (w ∷ t) e = by-entry (Read.Refused 10) NoNumber w (firsts t) e no-command
+    ((λ q. (refl, refl))
+    also (λ q. (refl, refl))
+    also (λ q. (refl, refl))
+    also (λ q. (refl, refl))
+    also (λ q. (refl, refl))
+    also (λ q. (refl, refl))
+    also (λ q. (refl, refl))
+    also (λ q. (refl, refl))
+    also Each.none)
+
+first-word : {ws : List (List ℕ)} {c : Command} {es : List (List ℕ)} → Row ws c es → NoNumber (headWord ws)
+first-word {ws} r = read-first ws (row-read r)
 
 address-starts : {w : List ℕ} {n : ℕ} → AddressWord w n → startsNumber w ≡ true
 address-starts {w} (address u h) = go w (unsigned-first u)

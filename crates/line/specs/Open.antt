@@ -8,6 +8,7 @@ use Rattle.numbers.specs.Reading as Number
 use Rattle.words.specs.Cutting as Words
 use Rattle.words.specs.Find as Find
 use Rattle.command.specs.Settings as Settings
+use Rattle.command.specs.Commands as Commands
 use Rattle.phrase.specs.Reading as Phrase
 use Rattle.line.specs.Reading as Line
 
@@ -21,12 +22,16 @@ unfolding Number.valueOf Number.scan Number.digitsFrom Number.startsHex Number.u
 openNumbers = 0
 
 unfoldable openWords : ℕ
-unfolding Words.isSpace Words.noSpace Words.grow Words.cut Words.headWord Words.tailWords Find.meaningOf Settings.nameOf
+unfolding Words.isSpace Words.noSpace Words.grow Words.cut Words.headWord Words.tailWords Find.meaningOf
 openWords = 0
+
+unfoldable openCommand : ℕ
+unfolding Settings.axisSettings Settings.deviceSettings Settings.nameOf Commands.echoOf
+openCommand = 0
 
 unfoldable openPhrase : ℕ
 unfolding Phrase.ended Phrase.oneNumber Phrase.readMove Phrase.readSetting Phrase.readGet Phrase.readSet Phrase.readStorepos
-    Phrase.readParking Phrase.readTools Phrase.readWarnings Phrase.readCommand Phrase.echoOf
+    Phrase.readParking Phrase.readTools Phrase.readWarnings Phrase.readCommand
 openPhrase = 0
 
 unfoldable openLine : ℕ
@@ -35,5 +40,5 @@ unfolding Line.printable Line.noColon Line.isEnd Line.isFooter Line.checked Line
 openLine = 0
 
 unfoldable pub reading : ℕ
-unfolding openBytes openNumbers openWords openPhrase openLine
+unfolding openBytes openNumbers openWords openCommand openPhrase openLine
 reading = 0

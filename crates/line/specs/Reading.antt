@@ -13,7 +13,8 @@ use Rattle.numbers.specs.Reading.{noDigit, valueOf, readAddress, readPair, says
 use Rattle.numbers.specs.declared.UnsignedRead.{UnsignedRead}
 use Rattle.numbers.specs.declared.UnsignedRead.the-variants as Unsigned
 use Rattle.words.specs.Cutting.{cut, headWord, tailWords}
-use Rattle.phrase.specs.Reading.{readCommand, echoOf}
+use Rattle.command.specs.Commands.{echoOf}
+use Rattle.phrase.specs.Reading.{readCommand}
 use Rattle.phrase.specs.declared.WordsRead.the-variants as Words
 use Rattle.line.specs.declared.Frame.{Frame}
 use Rattle.line.specs.declared.Frame.the-variants as Frame

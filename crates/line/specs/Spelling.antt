@@ -7,7 +7,7 @@ use Rattle.laws.specs.Text.{CR, LF, text}
 use Rattle.numbers.specs.Checksum.{checksum}
 use Rattle.numbers.specs.Spelling.{Digit, AddressWord, HexPair}
 use Rattle.words.specs.Spelling.{Content}
-use Rattle.phrase.specs.Types.{Command}
+use Rattle.command.specs.declared.Command.{Command}
 use Rattle.phrase.specs.Spelling.{Row}
 
 -- "Footer: one or two bytes, each CR or LF."

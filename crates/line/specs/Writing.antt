@@ -5,7 +5,8 @@ use Prim.Native.Nat.{ℕ, _≤_}
 use Rattle.laws.specs.Text.{text, spaced}
 use Rattle.numbers.specs.Spelling.{highestAddress}
 use Rattle.numbers.specs.Decimal.{twoDigits, digits}
-use Rattle.phrase.specs.Writing.{commandWords, Spellable}
+use Rattle.command.specs.Commands.{commandWords}
+use Rattle.phrase.specs.Writing.{Spellable}
 use Rattle.line.specs.Spelling.{Asked}
 
 unfoldable pub contentFor : Asked → List ℕ

@@ -13,7 +13,9 @@ use Rattle.words.specs.Cutting.{headWord, tailWords, cut}
 use Rattle.words.specs.Find.{Entry, meaningOf, entryAt, index}
 use Rattle.words.proofs.Cut.{word-none, word-some}
 use Rattle.words.proofs.Table.{meaning-at}
-use Rattle.phrase.specs.Types.{Command, Nothing, Warnings, WarningsClear}
+use Rattle.command.specs.declared.AxisCommand.the-variants.{Nothing, Warnings, WarningsClear}
+use Rattle.command.specs.declared.Command.{Command}
+use Rattle.command.specs.declared.Command.the-variants.{OfAxes}
 use Rattle.phrase.specs.declared.Numbered.{Numbered}
 use Rattle.phrase.specs.declared.Numbered.the-variants as With
 use Rattle.phrase.specs.declared.WordsRead.{WordsRead}
@@ -38,13 +40,13 @@ module _ (l v : List ℕ) (first : v ≡ headWord (cut l)) where
   ended-not c h = rw (word-some l v _ first refl h)
 
   -- `warnings`, `warnings clear`, and any other word
-  pub warnings-alone : length v ≡ 0 → Words.Command Warnings ≡ readWarnings (cut l)
+  pub warnings-alone : length v ≡ 0 → Words.Command (OfAxes Warnings) ≡ readWarnings (cut l)
   unfolding readWarnings
   warnings-alone h = rw (word-none l v first h)
 
   module _ (h : length v ≡ 0 → ⊥) where
     pub warnings-clear : {r : WordsRead} (t : List (List ℕ)) → t ≡ tailWords (cut l) → same v (text "clear") ≡ true
-        → r ≡ ended WarningsClear t → r ≡ readWarnings (cut l)
+        → r ≡ ended (OfAxes WarningsClear) t → r ≡ readWarnings (cut l)
     unfolding readWarnings
     warnings-clear t q e z = rw (word-some l v t first q h, e) z
 
@@ -53,7 +55,7 @@ module _ (l v : List ℕ) (first : v ≡ headWord (cut l)) where
     warnings-other e = rw (word-some l v _ first refl h, e)
 
   -- no word at all, and a first word
-  pub command-none : length v ≡ 0 → Words.Command Nothing ≡ readCommand (cut l)
+  pub command-none : length v ≡ 0 → Words.Command (OfAxes Nothing) ≡ readCommand (cut l)
   unfolding readCommand
   command-none h = rw (word-none l v first h)
 

@@ -1,4 +1,3 @@
-pub mod Types
 pub mod Spelling
 pub mod Reading
 pub mod Writing

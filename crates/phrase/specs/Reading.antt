@@ -1,19 +1,26 @@
 -- How a command's words are read: the command, or the refusal 10 or 11.
 -- 10 is given at a word that the table does not have, before any word behind it is looked at, and so before 11.
-use mathlib.Core.Bool.{Bool, true, false, cond}
-use mathlib.Core.List.{List, [], _∷_, map}
+use mathlib.Core.Bool.{cond}
+use mathlib.Core.List.{List, [], _∷_, _++_, map}
 use Prim.Native.Nat.{ℕ}
-use lib.ListN.{drop}
 use Rattle.laws.specs.Text.{text, same}
 use Rattle.laws.specs.Refusals.{BADCOMMAND, BADDATA}
 use Rattle.units.specs.Units.{position, speed}
+use Rattle.units.specs.declared.Number.{Number}
 use Rattle.numbers.specs.Reading.{readNumber}
 use Rattle.numbers.specs.declared.NumberRead.{NumberRead}
 use Rattle.numbers.specs.declared.NumberRead.the-variants as Number
 use Rattle.words.specs.Cutting.{headWord, tailWords}
 use Rattle.words.specs.Find.{Entry, _means_, meaningOf}
-use Rattle.phrase.specs.Types.{Number, Setting, OfAxis, Pos, LimitMin, LimitMax, MaxSpeed, Accel, DriverCurrentMax, DriverCurrentRun, DriverCurrentHold, DriverDir, EncoderIndexCount, OfDevice, CommAddress, CommAlert, CommChecksum, SystemAccess, DeviceId, SystemAxisCount, Command, Nothing, Home, Stop, Estop, MoveTo, MoveVel, Abs, Rel, Min, Max, Stored, Get, Set, Storepos, StoreposAt, StoreposCurrent, Warnings, WarningsClear, ParkingState, Park, Unpark, Echo}
-use Rattle.command.specs.Settings.{nameOf, readOnly}
+use Rattle.command.specs.declared.Setting.{Setting}
+use Rattle.command.specs.declared.Setting.the-variants as Setting
+use Rattle.command.specs.declared.Target.the-variants.{Abs, Rel, Min, Max, Stored}
+use Rattle.command.specs.declared.AxisCommand.the-variants.{Nothing, Home, Stop, Estop, MoveTo, MoveVel, Get, Set, Storepos, StoreposAt, StoreposCurrent, Warnings, WarningsClear}
+use Rattle.command.specs.declared.DeviceCommand.the-variants.{ParkingState, Park, Unpark, Echo}
+use Rattle.command.specs.declared.DeviceCommand.the-variants as Device
+use Rattle.command.specs.declared.Command.{Command}
+use Rattle.command.specs.declared.Command.the-variants.{OfAxes, OfDevice}
+use Rattle.command.specs.Settings.{axisSettings, deviceSettings, nameOf, readOnly}
 use Rattle.phrase.specs.declared.SettingRead.{SettingRead}
 use Rattle.phrase.specs.declared.SettingRead.the-variants.{Is, Unknown}
 use Rattle.phrase.specs.declared.Numbered.{Numbered}
@@ -27,16 +34,25 @@ unfoldable pub ended : Command → List (List ℕ) → WordsRead
 ended c [] = Words.Command c
 ended c (w ∷ ws) = Refused BADDATA
 
+-- the scope of `get` and `set` is the "setting's"
+abbrev pub getCommand : Setting → Command
+getCommand (Setting.OfAxis s) = OfAxes (Get s)
+getCommand (Setting.OfDevice s) = OfDevice (Device.Get s)
+
+abbrev pub setCommand : Setting → Number → Command
+setCommand (Setting.OfAxis s) n = OfAxes (Set s n)
+setCommand (Setting.OfDevice s) n = OfDevice (Device.Set s n)
+
 -- the command of a row that waits for its number
 abbrev pub numbered : Numbered → Number → Command
-numbered With.MoveAbs n = MoveTo (Abs (position (n .0)))
-numbered With.MoveRel n = MoveTo (Rel (position (n .0)))
-numbered With.MoveVel n = MoveVel (speed (n .0))
-numbered With.MoveStored n = MoveTo (Stored n)
-numbered (With.SetTo s) n = Set s n
-numbered With.Store n = Storepos n
-numbered (With.StoreAt m) n = StoreposAt m (position (n .0))
-numbered With.StoreCurrent n = StoreposCurrent n
+numbered With.MoveAbs n = OfAxes (MoveTo (Abs (position (n .0))))
+numbered With.MoveRel n = OfAxes (MoveTo (Rel (position (n .0))))
+numbered With.MoveVel n = OfAxes (MoveVel (speed (n .0)))
+numbered With.MoveStored n = OfAxes (MoveTo (Stored n))
+numbered (With.SetTo s) n = setCommand s n
+numbered With.Store n = OfAxes (Storepos n)
+numbered (With.StoreAt m) n = OfAxes (StoreposAt m (position (n .0)))
+numbered With.StoreCurrent n = OfAxes (StoreposCurrent n)
 
 abbrev pub made : Numbered → NumberRead → WordsRead
 made k (Number.Value n) = Words.Command (numbered k n)
@@ -54,8 +70,8 @@ moves ws =
     text "abs" means oneNumber With.MoveAbs ws
     ∷ text "rel" means oneNumber With.MoveRel ws
     ∷ text "vel" means oneNumber With.MoveVel ws
-    ∷ text "min" means ended (MoveTo Min) ws
-    ∷ text "max" means ended (MoveTo Max) ws
+    ∷ text "min" means ended (OfAxes (MoveTo Min)) ws
+    ∷ text "max" means ended (OfAxes (MoveTo Max)) ws
     ∷ text "stored" means oneNumber With.MoveStored ws
     ∷ []
 
@@ -64,12 +80,7 @@ readMove ws = meaningOf (Refused BADCOMMAND) (headWord ws) (moves (tailWords ws)
 
 -- the settings by their names
 abbrev pub settings : List Setting
-settings =
-    OfAxis Pos ∷ OfAxis LimitMin ∷ OfAxis LimitMax ∷ OfAxis MaxSpeed ∷ OfAxis Accel ∷ OfAxis DriverCurrentMax ∷ OfAxis DriverCurrentRun
-    ∷ OfAxis DriverCurrentHold
-    ∷ OfAxis DriverDir ∷ OfAxis EncoderIndexCount ∷ OfDevice CommAddress ∷ OfDevice CommAlert ∷ OfDevice CommChecksum
-    ∷ OfDevice SystemAccess ∷ OfDevice DeviceId
-    ∷ OfDevice SystemAxisCount ∷ []
+settings = map (λ s. Setting.OfAxis s) axisSettings ++ map (λ s. Setting.OfDevice s) deviceSettings
 
 abbrev pub named : Setting → Entry SettingRead
 named s = nameOf s means Is s
@@ -83,7 +94,7 @@ readSetting w = meaningOf Unknown w names
 -- behind `get`
 abbrev pub getOf : SettingRead → List (List ℕ) → WordsRead
 getOf Unknown ws = Refused BADCOMMAND
-getOf (Is s) ws = ended (Get s) ws
+getOf (Is s) ws = ended (getCommand s) ws
 
 unfoldable pub readGet : List (List ℕ) → WordsRead
 readGet ws = getOf (readSetting (headWord ws)) (tailWords ws)
@@ -109,29 +120,37 @@ readStorepos (w ∷ v ∷ u ∷ ws) = Refused BADDATA
 
 -- behind `tools parking`
 abbrev pub parkings : List (List ℕ) → List (Entry WordsRead)
-parkings ws = text "state" means ended ParkingState ws ∷ text "park" means ended Park ws ∷ text "unpark" means ended Unpark ws ∷ []
+parkings ws =
+    text "state" means ended (OfDevice ParkingState) ws
+    ∷ text "park" means ended (OfDevice Park) ws
+    ∷ text "unpark" means ended (OfDevice Unpark) ws
+    ∷ []
 
 unfoldable pub readParking : List (List ℕ) → WordsRead
 readParking ws = meaningOf (Refused BADDATA) (headWord ws) (parkings (tailWords ws))
 
 -- behind `tools`
 abbrev pub tools : List (List ℕ) → List (Entry WordsRead)
-tools ws = text "storepos" means readStorepos ws ∷ text "parking" means readParking ws ∷ text "echo" means Words.Command Echo ∷ []
+tools ws =
+    text "storepos" means readStorepos ws
+    ∷ text "parking" means readParking ws
+    ∷ text "echo" means Words.Command (OfDevice Echo)
+    ∷ []
 
 unfoldable pub readTools : List (List ℕ) → WordsRead
 readTools ws = meaningOf (Refused BADCOMMAND) (headWord ws) (tools (tailWords ws))
 
 -- behind `warnings`
 unfoldable pub readWarnings : List (List ℕ) → WordsRead
-readWarnings [] = Words.Command Warnings
-readWarnings (w ∷ ws) = cond (same w (text "clear")) (ended WarningsClear ws) (Refused BADDATA)
+readWarnings [] = Words.Command (OfAxes Warnings)
+readWarnings (w ∷ ws) = cond (same w (text "clear")) (ended (OfAxes WarningsClear) ws) (Refused BADDATA)
 
 -- the first word
 abbrev pub firsts : List (List ℕ) → List (Entry WordsRead)
 firsts ws =
-    text "home" means ended Home ws
-    ∷ text "stop" means ended Stop ws
-    ∷ text "estop" means ended Estop ws
+    text "home" means ended (OfAxes Home) ws
+    ∷ text "stop" means ended (OfAxes Stop) ws
+    ∷ text "estop" means ended (OfAxes Estop) ws
     ∷ text "move" means readMove ws
     ∷ text "get" means readGet ws
     ∷ text "set" means readSet ws
@@ -140,28 +159,5 @@ firsts ws =
     ∷ []
 
 unfoldable pub readCommand : List (List ℕ) → WordsRead
-readCommand [] = Words.Command Nothing
+readCommand [] = Words.Command (OfAxes Nothing)
 readCommand (w ∷ ws) = meaningOf (Refused BADCOMMAND) w (firsts ws)
-
--- "An echo command carries its words": the command's third and those behind it. No other command carries any.
-abbrev pub isEcho : Command → Bool
-isEcho Nothing = false
-isEcho Home = false
-isEcho Stop = false
-isEcho Estop = false
-isEcho (MoveTo t) = false
-isEcho (MoveVel v) = false
-isEcho (Get s) = false
-isEcho (Set s n) = false
-isEcho (Storepos n) = false
-isEcho (StoreposAt n p) = false
-isEcho (StoreposCurrent n) = false
-isEcho Warnings = false
-isEcho WarningsClear = false
-isEcho ParkingState = false
-isEcho Park = false
-isEcho Unpark = false
-isEcho Echo = true
-
-unfoldable pub echoOf : Command → List (List ℕ) → List (List ℕ)
-echoOf c ws = cond (isEcho c) (drop 2 ws) []

@@ -2,8 +2,10 @@
 // operand.rt, verbs.rt, toolwords.rt and reading.rt.
 // The spelling is in specs/Spelling.antt, and proofs/Rows.antt shows that just that is read.
 ghost use mathlib.Core.Path.{_≡_};
-ghost use Rattle.phrase.specs.Reading.{numbered as numberedBy, made};
+ghost use Rattle.phrase.specs.Reading.{setCommand, numbered as numberedBy, made};
+use command::AxisCommand;
 use command::Command;
+use command::DeviceCommand;
 use command::Setting;
 use command::Target;
 use laws::BADDATA;
@@ -34,20 +36,30 @@ pub enum Numbered {
     StoreCurrent,
 }
 
+// `set` of a setting, of the setting's scope.
+fn set_command(s: Setting, n: Number) -> Command
+    ensures { λ r. ⌜ r ≡ setCommand s n ⌝ }
+{
+    match s {
+        Setting::OfAxis(t) => Command::OfAxes(AxisCommand::Set(t, n)),
+        Setting::OfDevice(t) => Command::OfDevice(DeviceCommand::Set(t, n)),
+    }
+}
+
 impl Numbered {
     // The row with its number.
     fn with(self, n: Number) -> Command
         ensures { λ r. ⌜ r ≡ numberedBy self n ⌝ }
     {
         match self {
-            Numbered::MoveAbs => Command::MoveTo(Target::Abs(n.position())),
-            Numbered::MoveRel => Command::MoveTo(Target::Rel(n.position())),
-            Numbered::MoveVel => Command::MoveVel(n.speed()),
-            Numbered::MoveStored => Command::MoveTo(Target::Stored(n)),
-            Numbered::SetTo(s) => Command::Set(s, n),
-            Numbered::Store => Command::Storepos(n),
-            Numbered::StoreAt(m) => Command::StoreposAt(m, n.position()),
-            Numbered::StoreCurrent => Command::StoreposCurrent(n),
+            Numbered::MoveAbs => Command::OfAxes(AxisCommand::MoveTo(Target::Abs(n.position()))),
+            Numbered::MoveRel => Command::OfAxes(AxisCommand::MoveTo(Target::Rel(n.position()))),
+            Numbered::MoveVel => Command::OfAxes(AxisCommand::MoveVel(n.speed())),
+            Numbered::MoveStored => Command::OfAxes(AxisCommand::MoveTo(Target::Stored(n))),
+            Numbered::SetTo(s) => set_command(s, n),
+            Numbered::Store => Command::OfAxes(AxisCommand::Storepos(n)),
+            Numbered::StoreAt(m) => Command::OfAxes(AxisCommand::StoreposAt(m, n.position())),
+            Numbered::StoreCurrent => Command::OfAxes(AxisCommand::StoreposCurrent(n)),
         }
     }
 

@@ -9,6 +9,7 @@ ghost use Rattle.phrase.specs.Reading.{readWarnings, firsts, readCommand
 ghost use Rattle.phrase.specs.Refusals.{wordsNumber, wordsRefusal};
 use crate::WordsRead;
 use crate::operand::ended_at;
+use command::AxisCommand;
 use command::Command;
 use laws::BADCOMMAND;
 use laws::BADDATA;
@@ -19,10 +20,14 @@ fn read_warnings(s: &[u8], at: usize) -> WordsRead
 {
     let w = words::first_word(s, at);
     if w.len() == 0 {
-        return WordsRead::Command(Command::Warnings);
+        return WordsRead::Command(Command::OfAxes(AxisCommand::Warnings));
     }
     if words::same_bytes(w, b"clear") {
-        return ended_at(s, words::past_word(s, at), Command::WarningsClear);
+        return ended_at(
+            s,
+            words::past_word(s, at),
+            Command::OfAxes(AxisCommand::WarningsClear),
+        );
     }
     WordsRead::Refused(BADDATA)
 }
@@ -32,9 +37,9 @@ fn first_at(k: usize, s: &[u8], at: usize) -> WordsRead
     ensures { λ r. ⌜ r ≡ entryAt (Refused 10) k (firsts (cut (drop at (now (s .entry))))) ⌝ }
 {
     match k {
-        0 => ended_at(s, at, Command::Home),
-        1 => ended_at(s, at, Command::Stop),
-        2 => ended_at(s, at, Command::Estop),
+        0 => ended_at(s, at, Command::OfAxes(AxisCommand::Home)),
+        1 => ended_at(s, at, Command::OfAxes(AxisCommand::Stop)),
+        2 => ended_at(s, at, Command::OfAxes(AxisCommand::Estop)),
         3 => crate::verbs::read_move(s, at),
         4 => crate::verbs::read_get(s, at),
         5 => crate::verbs::read_set(s, at),
@@ -51,7 +56,7 @@ pub fn read_command(s: &[u8], at: usize) -> WordsRead
 {
     let w = words::first_word(s, at);
     if w.len() == 0 {
-        return WordsRead::Command(Command::Nothing);
+        return WordsRead::Command(Command::OfAxes(AxisCommand::Nothing));
     }
     let k = words::find_word(w, b"home stop estop move get set tools warnings");
     first_at(k, s, words::past_word(s, at))

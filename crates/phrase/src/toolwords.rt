@@ -10,6 +10,7 @@ use crate::Numbered;
 use crate::WordsRead;
 use crate::operand::ended_at;
 use command::Command;
+use command::DeviceCommand;
 use laws::BADCOMMAND;
 use laws::BADDATA;
 use numbers::NumberRead;
@@ -50,9 +51,9 @@ fn parking_at(k: usize, s: &[u8], at: usize) -> WordsRead
     ensures { λ r. ⌜ r ≡ entryAt (Refused 11) k (parkings (cut (drop at (now (s .entry))))) ⌝ }
 {
     match k {
-        0 => ended_at(s, at, Command::ParkingState),
-        1 => ended_at(s, at, Command::Park),
-        2 => ended_at(s, at, Command::Unpark),
+        0 => ended_at(s, at, Command::OfDevice(DeviceCommand::ParkingState)),
+        1 => ended_at(s, at, Command::OfDevice(DeviceCommand::Park)),
+        2 => ended_at(s, at, Command::OfDevice(DeviceCommand::Unpark)),
         _ => WordsRead::Refused(BADDATA),
     }
 }
@@ -72,7 +73,7 @@ fn tool_at(k: usize, s: &[u8], at: usize) -> WordsRead
     match k {
         0 => read_storepos(s, at),
         1 => read_parking(s, at),
-        2 => WordsRead::Command(Command::Echo),
+        2 => WordsRead::Command(Command::OfDevice(DeviceCommand::Echo)),
         _ => WordsRead::Refused(BADCOMMAND),
     }
 }

@@ -5,14 +5,17 @@ ghost use lib.ListN.{drop};
 ghost use Rattle.words.specs.Cutting.{cut};
 ghost use Rattle.words.specs.Find.{entryAt};
 ghost use Rattle.phrase.specs.declared.WordsRead.the-variants.{Refused};
-ghost use Rattle.phrase.specs.Reading.{moves, readMove, getOf, readGet, setOf, readSet};
+ghost use Rattle.phrase.specs.Reading.{moves, readMove, getCommand, getOf, readGet, setOf, readSet};
 use crate::Numbered;
 use crate::SettingRead;
 use crate::WordsRead;
 use crate::operand::ended_at;
 use crate::operand::one_number;
 use crate::operand::read_setting;
+use command::AxisCommand;
 use command::Command;
+use command::DeviceCommand;
+use command::Setting;
 use command::Target;
 use laws::BADCOMMAND;
 
@@ -24,8 +27,8 @@ fn move_at(k: usize, s: &[u8], at: usize) -> WordsRead
         0 => one_number(s, at, Numbered::MoveAbs),
         1 => one_number(s, at, Numbered::MoveRel),
         2 => one_number(s, at, Numbered::MoveVel),
-        3 => ended_at(s, at, Command::MoveTo(Target::Min)),
-        4 => ended_at(s, at, Command::MoveTo(Target::Max)),
+        3 => ended_at(s, at, Command::OfAxes(AxisCommand::MoveTo(Target::Min))),
+        4 => ended_at(s, at, Command::OfAxes(AxisCommand::MoveTo(Target::Max))),
         5 => one_number(s, at, Numbered::MoveStored),
         _ => WordsRead::Refused(BADCOMMAND),
     }
@@ -39,13 +42,23 @@ pub fn read_move(s: &[u8], at: usize) -> WordsRead
     move_at(k, s, words::past_word(s, at))
 }
 
+// `get` of a setting, of the setting's scope.
+fn get_command(s: Setting) -> Command
+    ensures { λ r. ⌜ r ≡ getCommand s ⌝ }
+{
+    match s {
+        Setting::OfAxis(t) => Command::OfAxes(AxisCommand::Get(t)),
+        Setting::OfDevice(t) => Command::OfDevice(DeviceCommand::Get(t)),
+    }
+}
+
 // Behind `get` and the name of x.
 fn get_of(s: &[u8], at: usize, x: SettingRead) -> WordsRead
     ensures { λ r. ⌜ r ≡ getOf x (cut (drop at (now (s .entry)))) ⌝ }
 {
     match x {
         SettingRead::Unknown => WordsRead::Refused(BADCOMMAND),
-        SettingRead::Is(t) => ended_at(s, at, Command::Get(t)),
+        SettingRead::Is(t) => ended_at(s, at, get_command(t)),
     }
 }
 

@@ -6,9 +6,10 @@ ghost use lib.ListN.{take, drop};
 ghost use Rattle.laws.specs.Text.{text};
 ghost use Rattle.numbers.specs.Checksum.{checksum, sumText};
 ghost use Rattle.buffer.specs.Wrote.{Wrote};
-ghost use Rattle.reply.specs.Reply.{verdict, status, body, ending};
+ghost use Rattle.reply.specs.Reply.{body, ending};
 use crate::data::put_warning;
 use buffer::put_byte;
+use buffer::put_either;
 use buffer::put_number;
 use buffer::put_pair;
 use buffer::put_text;
@@ -27,26 +28,6 @@ pub struct Head {
     pub warnings: u32,
 }
 
-fn put_verdict(buf: &mut [u8], at: usize, ok: bool) -> usize
-    ensures { λ r. ⌜ Wrote (now (buf .entry)) at (verdict ok) (now (buf .exit)) r ⌝ }
-{
-    if ok {
-        put_text(buf, at, b"OK")
-    } else {
-        put_text(buf, at, b"RJ")
-    }
-}
-
-fn put_status(buf: &mut [u8], at: usize, busy: bool) -> usize
-    ensures { λ r. ⌜ Wrote (now (buf .entry)) at (status busy) (now (buf .exit)) r ⌝ }
-{
-    if busy {
-        put_text(buf, at, b"BUSY")
-    } else {
-        put_text(buf, at, b"IDLE")
-    }
-}
-
 // Up to the space before the data.
 pub fn put_head(buf: &mut [u8], at: usize, h: Head) -> usize
     ensures { λ r. ⌜ Wrote (now (buf .entry)) at (text "@" ++ body h (text "")) (now (buf .exit)) r ⌝ }
@@ -56,9 +37,9 @@ pub fn put_head(buf: &mut [u8], at: usize, h: Head) -> usize
     let c = put_byte(buf, b, b' ');
     let d = put_number(buf, c, h.axis);
     let e = put_byte(buf, d, b' ');
-    let f = put_verdict(buf, e, h.ok);
+    let f = put_either(buf, e, h.ok, b"OK", b"RJ");
     let g = put_byte(buf, f, b' ');
-    let i = put_status(buf, g, h.busy);
+    let i = put_either(buf, g, h.busy, b"BUSY", b"IDLE");
     let j = put_byte(buf, i, b' ');
     let k = put_warning(buf, j, flags::highest(h.warnings));
     put_byte(buf, k, b' ')

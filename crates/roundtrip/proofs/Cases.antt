@@ -14,7 +14,14 @@ use Rattle.numbers.specs.Checksum.{total, checksum, sumText}
 use Rattle.numbers.specs.Decimal.{lastDigit, digitsWithin, digits, decimal, twoDigits, hexDigit, hexPair}
 use Rattle.words.specs.Cutting.{isSpace, noSpace, grow, cut}
 use Rattle.command.specs.Settings.{nameOf}
-use Rattle.phrase.specs.Types.{OfAxis, OfDevice, Pos, DeviceId, Abs, Stored, Command, Nothing, Home, MoveTo, Set, Echo}
+use Rattle.command.specs.declared.AxisSetting.the-variants.{Pos}
+use Rattle.command.specs.declared.DeviceSetting.the-variants.{DeviceId}
+use Rattle.command.specs.declared.Target.the-variants.{Abs, Stored}
+use Rattle.command.specs.declared.AxisCommand.the-variants.{Nothing, Home, MoveTo, Set}
+use Rattle.command.specs.declared.DeviceCommand.the-variants.{Echo}
+use Rattle.command.specs.declared.DeviceCommand.the-variants as Device
+use Rattle.command.specs.declared.Command.{Command}
+use Rattle.command.specs.declared.Command.the-variants.{OfAxes, OfDevice}
 use Rattle.host_reader.specs.Reading.{dataByte}
 use Rattle.host_writer.specs.Writing.{lineWords, lineEnd, lineText, unspellable, writerRefusal, Outcome, writeLine}
 
@@ -37,29 +44,29 @@ dots n = replicate n 46
 
 unfoldable pub rows : List Row
 rows =
-    row 1 0 Nothing [] false 80 0 (text "/01 0\n")
-    ∷ row 1 0 Nothing [] true 80 0 (text "/01 0:4F\n")
-    ∷ row 1 0 Home [] true 80 0 (text "/01 0 home:86\n")
-    ∷ row 99 9 (MoveTo (Abs (position (negsuc 2147483647)))) [] false 80 0 (text "/99 9 move abs -2147483648\n")
+    row 1 0 (OfAxes Nothing) [] false 80 0 (text "/01 0\n")
+    ∷ row 1 0 (OfAxes Nothing) [] true 80 0 (text "/01 0:4F\n")
+    ∷ row 1 0 (OfAxes Home) [] true 80 0 (text "/01 0 home:86\n")
+    ∷ row 99 9 (OfAxes (MoveTo (Abs (position (negsuc 2147483647))))) [] false 80 0 (text "/99 9 move abs -2147483648\n")
     -- the writer does not look at a row's own range
-    ∷ row 1 0 (MoveTo (Stored (number (pos 99)))) [] false 80 0 (text "/01 0 move stored 99\n")
-    ∷ row 7 1 (Set (OfAxis Pos) (number (pos 5))) [] true 80 0 (text "/07 1 set pos 5:15\n")
+    ∷ row 1 0 (OfAxes (MoveTo (Stored (number (pos 99))))) [] false 80 0 (text "/01 0 move stored 99\n")
+    ∷ row 7 1 (OfAxes (Set Pos (number (pos 5)))) [] true 80 0 (text "/07 1 set pos 5:15\n")
     -- an echo's message is parted at its spaces
-    ∷ row 1 0 Echo (text "  a   b ") false 80 0 (text "/01 0 tools echo a b\n")
-    ∷ row 1 0 Echo (text "   ") false 80 0 (text "/01 0 tools echo\n")
-    ∷ row 1 0 Echo (dots 62) false 80 0 (text "/01 0 tools echo " ++ dots 62 ++ text "\n")
+    ∷ row 1 0 (OfDevice Echo) (text "  a   b ") false 80 0 (text "/01 0 tools echo a b\n")
+    ∷ row 1 0 (OfDevice Echo) (text "   ") false 80 0 (text "/01 0 tools echo\n")
+    ∷ row 1 0 (OfDevice Echo) (dots 62) false 80 0 (text "/01 0 tools echo " ++ dots 62 ++ text "\n")
     -- refusals: 20, then 11, then 2
-    ∷ row 100 0 Home [] false 79 20 []
-    ∷ row 100 0 Home [] false 80 11 []
-    ∷ row 255 0 Home [] false 80 11 []
-    ∷ row 1 10 Home [] false 80 11 []
-    ∷ row 1 0 (Set (OfDevice DeviceId) (number (pos 1))) [] false 80 11 []
-    ∷ row 1 0 Echo (text "a:b") false 80 11 []
-    ∷ row 1 0 Echo (0 ∷ []) false 80 11 []
-    ∷ row 1 0 Echo (255 ∷ []) false 80 11 []
-    ∷ row 1 0 Echo (dots 63) false 80 2 []
-    ∷ row 1 0 Echo (dots 60) true 80 2 []
-    ∷ row 1 0 Echo (dots 5000) false 80 2 []
+    ∷ row 100 0 (OfAxes Home) [] false 79 20 []
+    ∷ row 100 0 (OfAxes Home) [] false 80 11 []
+    ∷ row 255 0 (OfAxes Home) [] false 80 11 []
+    ∷ row 1 10 (OfAxes Home) [] false 80 11 []
+    ∷ row 1 0 (OfDevice (Device.Set DeviceId (number (pos 1)))) [] false 80 11 []
+    ∷ row 1 0 (OfDevice Echo) (text "a:b") false 80 11 []
+    ∷ row 1 0 (OfDevice Echo) (0 ∷ []) false 80 11 []
+    ∷ row 1 0 (OfDevice Echo) (255 ∷ []) false 80 11 []
+    ∷ row 1 0 (OfDevice Echo) (dots 63) false 80 2 []
+    ∷ row 1 0 (OfDevice Echo) (dots 60) true 80 2 []
+    ∷ row 1 0 (OfDevice Echo) (dots 5000) false 80 2 []
     ∷ []
 
 abbrev written : Row → Outcome

@@ -1,5 +1,4 @@
 pub mod WrittenWords
-pub mod Rows
 pub mod ReadsBack
 pub mod WrittenIsSpelled
 pub mod Cases

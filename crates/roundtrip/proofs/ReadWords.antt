@@ -8,7 +8,7 @@ use lib.ListN.{drop}
 use Rattle.laws.proofs.Each.{Each, none}
 use Rattle.words.specs.Spelling.{Word}
 use Rattle.command.specs.declared.Command.{Command}
-use Rattle.phrase.specs.Reading.{isEcho, echoOf}
+use Rattle.command.specs.Commands.{carriesWords, echoOf}
 use Rattle.line.specs.declared.Frame.{Frame}
 use Rattle.line.specs.declared.Frame.the-variants as Frame
 use Rattle.line.specs.Reading.{frameOf, contentOf, wordsOf}
@@ -30,7 +30,7 @@ line-words l = go (frameOf l) refl
 -- the words that a command carries are among them
 pub echo-words : {ws : List (List ℕ)} (c : Command) → Each Word ws → Each Word (echoOf c ws)
 unfolding echoOf
-echo-words {ws} c h = go (isEcho c)
+echo-words {ws} c h = go (carriesWords c)
   where
     go : (t : Bool) → Each Word (cond t (drop 2 ws) [])
     go true = each-drop 2 h

@@ -19,25 +19,18 @@ use Rattle.numbers.specs.Checksum.{checksum, sumText}
 use Rattle.numbers.specs.Decimal.{lastDigit, digits}
 use Rattle.numbers.specs.Spelling.{Digit}
 use Rattle.numbers.proofs.Decimal.{digits-one, address-spelled, pair-spelled}
-use Rattle.phrase.specs.Types.{Command}
-use Rattle.line.specs.Spelling.{End, Footer, Checksum, AxisWord, Asked, Words, Line}
+use Rattle.command.specs.declared.Command.{Command}
+use Rattle.line.specs.Spelling.{Checksum, Asked, Line}
 use Rattle.line.specs.Reading.{readAsked}
 use Rattle.line.proofs.Demand3.{demand-3}
+use Rattle.line.proofs.Every.{line-spelled as composed}
 use Rattle.host_writer.specs.Writing.{lineWords, lineEnd, lineText, unfit, unspellable, writerRefusal, writeLine}
 use Rattle.roundtrip.specs.Held.{Held}
-use Rattle.roundtrip.proofs.WrittenWords.{two-word, digit-word, spaced-content}
-use Rattle.roundtrip.proofs.Rows.{carried, row, command-words}
+use Rattle.roundtrip.proofs.WrittenWords.{carried, row, command-words}
 
 -- what was put in
 abbrev pub asked : ℕ → ℕ → Command → List ℕ → Asked
 asked address axis c message = record { address = address; axis = axis; command = c; echo = carried c message }
-
-axis-word : (k : ℕ) → k ≤ 9 → AxisWord (digits k) k
-unfolding lastDigit
-axis-word k h =
-    let small : k < 10 = omega arith in
-    rw (digits-one k small) (subst (AxisWord (lastDigit k)) (mod-eq-of-lt small)
-    (AxisWord.digit (Digit.figure (omega arith) (omega arith) refl)))
 
 sum-byte : (s : List ℕ) → checksum s < 256
 unfolding checksum
@@ -93,11 +86,7 @@ module _ (address axis : ℕ) (c : Command) (message : List ℕ) (sum : Bool) (b
         let k = sumText sum s in
         let same : text "/" ++ s ++ (k ++ text "\n") ≡ text "/" ++ s ++ k ++ text "\n" = sym (append-assoc (text "/" ++ s) k (text "\n")) in
         rw same
-        (Line.line
-        (spaced-content (two-word address (a .address)) (more (digit-word axis (a .axis)) (command-words c message held (a .fit))))
-        (Words.with-axis (address-spelled address (a .address)) (axis-word axis (a .axis)) (row c message held (a .fit)))
-        (checked sum s)
-        (Footer.one End.lf)
+        (composed address axis (a .address) (a .axis) (row c message held (a .fit)) (command-words c message held (a .fit)) (checked sum s)
         (subst (λ (l : List ℕ). length l ≤ 80) same (a .short)))
 
     -- the line reader reads the line as the command that was put in

@@ -17,14 +17,18 @@ use Rattle.numbers.specs.declared.UnsignedRead.the-variants as Unsigned
 use Rattle.words.specs.Cutting.{cut, headWord, tailWords}
 use Rattle.words.specs.Find.{Entry, meaningOf}
 use Rattle.command.specs.Settings.{readOnly}
-use Rattle.phrase.specs.Types.{Command, Home, Stop, Estop, MoveTo, Min, Max, Get, WarningsClear, ParkingState, Park, Unpark}
+use Rattle.command.specs.declared.Target.the-variants.{Min, Max}
+use Rattle.command.specs.declared.AxisCommand.the-variants as AxisCommand
+use Rattle.command.specs.declared.DeviceCommand.the-variants as DeviceCommand
+use Rattle.command.specs.declared.Command.{Command}
+use Rattle.command.specs.declared.Command.the-variants.{OfAxes, OfDevice}
 use Rattle.phrase.specs.declared.Numbered.{Numbered}
 use Rattle.phrase.specs.declared.Numbered.the-variants as With
 use Rattle.phrase.specs.declared.SettingRead.{SettingRead}
 use Rattle.phrase.specs.declared.SettingRead.the-variants.{Is, Unknown}
 use Rattle.phrase.specs.declared.WordsRead.{WordsRead}
 use Rattle.phrase.specs.declared.WordsRead.the-variants as Words
-use Rattle.phrase.specs.Reading.{ended, made, oneNumber, readMove, readSetting, getOf, readGet, setOf, readSet, storeAt, readStorepos, readParking, readTools, readWarnings, readCommand}
+use Rattle.phrase.specs.Reading.{ended, getCommand, made, oneNumber, readMove, readSetting, getOf, readGet, setOf, readSet, storeAt, readStorepos, readParking, readTools, readWarnings, readCommand}
 use Rattle.line.specs.declared.Frame.{Frame}
 use Rattle.line.specs.declared.Frame.the-variants as Frame
 use Rattle.line.specs.declared.LineRead.{LineRead}
@@ -35,7 +39,7 @@ use Rattle.rules.specs.Refusals.{refusal}
 use Rattle.reply.specs.Data.{refusals, nameIn, refusalName}
 use Rattle.carriage.proofs.Demands.{Rejects}
 use Rattle.host_reader.specs.Spelling.{Data}
-use Rattle.roundtrip.proofs.WrittenWords.{word-of}
+use Rattle.phrase.proofs.Written.{word-of}
 use Rattle.roundtrip.proofs.Texts.{one-data}
 
 pub data Rejecting : ℕ → Type 0 where
@@ -72,7 +76,8 @@ first-in P (more {x = r} {xs = rows} h hs) z = go (r .applies) z (first-in P hs)
 pub device-rejects : (d : Device) (k : ℕ) (c : Command) → (refusal d k c ≡ 0 → ⊥) → Rejecting (refusal d k c)
 unfolding refusal
 device-rejects d k c z =
-    first-in Rejecting (more bad-axis (more device-only (more no-access (more parked (more status-busy (more bad-data none)))))) z
+    first-in Rejecting (more bad-command (more bad-axis
+    (more device-only (more no-access (more parked (more status-busy (more bad-data none))))))) z
 
 -- ---- the reader's: of words
 abbrev WordsReject : WordsRead → Type 0
@@ -112,8 +117,8 @@ move-rejects ws =
     (more (number-rejects With.MoveAbs t)
     (more (number-rejects With.MoveRel t)
     (more (number-rejects With.MoveVel t)
-    (more (ended-rejects (MoveTo Min) t)
-    (more (ended-rejects (MoveTo Max) t)
+    (more (ended-rejects (OfAxes (AxisCommand.MoveTo Min)) t)
+    (more (ended-rejects (OfAxes (AxisCommand.MoveTo Max)) t)
     (more (number-rejects With.MoveStored t) none))))))
 
 get-rejects : (ws : List (List ℕ)) → WordsReject (readGet ws)
@@ -122,7 +127,7 @@ get-rejects ws = go (readSetting (headWord ws))
   where
     go : (s : SettingRead) → WordsReject (getOf s (tailWords ws))
     go Unknown = bad-command
-    go (Is s) = ended-rejects (Get s) (tailWords ws)
+    go (Is s) = ended-rejects (getCommand s) (tailWords ws)
 
 set-rejects : (ws : List (List ℕ)) → WordsReject (readSet ws)
 unfolding readSet
@@ -151,7 +156,8 @@ unfolding readParking
 parking-rejects ws =
     let t = tailWords ws in
     meaning-rejects (headWord ws) (Words.Refused 11) bad-data
-    (more (ended-rejects ParkingState t) (more (ended-rejects Park t) (more (ended-rejects Unpark t) none)))
+    (more (ended-rejects (OfDevice DeviceCommand.ParkingState) t)
+    (more (ended-rejects (OfDevice DeviceCommand.Park) t) (more (ended-rejects (OfDevice DeviceCommand.Unpark) t) none)))
 
 tools-rejects : (ws : List (List ℕ)) → WordsReject (readTools ws)
 unfolding readTools
@@ -163,17 +169,17 @@ tools-rejects ws =
 warnings-rejects : (ws : List (List ℕ)) → WordsReject (readWarnings ws)
 unfolding readWarnings
 warnings-rejects [] = tt
-warnings-rejects (w ∷ ws) = either (same w (text "clear")) (ended WarningsClear ws) (Words.Refused 11)
-    (ended-rejects WarningsClear ws) bad-data
+warnings-rejects (w ∷ ws) = either (same w (text "clear")) (ended (OfAxes AxisCommand.WarningsClear) ws) (Words.Refused 11)
+    (ended-rejects (OfAxes AxisCommand.WarningsClear) ws) bad-data
 
 command-rejects : (ws : List (List ℕ)) → WordsReject (readCommand ws)
 unfolding readCommand
 command-rejects [] = tt
 command-rejects (w ∷ ws) =
     meaning-rejects w (Words.Refused 10) bad-command
-    (more (ended-rejects Home ws)
-    (more (ended-rejects Stop ws)
-    (more (ended-rejects Estop ws)
+    (more (ended-rejects (OfAxes AxisCommand.Home) ws)
+    (more (ended-rejects (OfAxes AxisCommand.Stop) ws)
+    (more (ended-rejects (OfAxes AxisCommand.Estop) ws)
     (more (move-rejects ws)
     (more (get-rejects ws)
     (more (set-rejects ws)

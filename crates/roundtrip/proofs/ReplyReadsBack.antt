@@ -9,7 +9,7 @@ use lib.Dec.{eqb}
 use lib.ListN.{length, take, drop}
 use lib.Seq.{take-at}
 use Rattle.laws.proofs.Bools.{clash}
-use Rattle.phrase.specs.Reading.{echoOf}
+use Rattle.command.specs.Commands.{echoOf}
 use Rattle.line.specs.Reading.{wordsOf}
 use Rattle.device.specs.declared.Device.{Device}
 use Rattle.device.specs.Good.{good}
@@ -88,7 +88,7 @@ not-zero status-busy = refl
 pub reply-reads-back : (d : Device) (l b : List ℕ) → length (d .axes) ≡ 4 → (step d l b .answer .length ≡ 0 → ⊥) → Understood (step d l b)
 unfolding silent rejected accepted written
 reply-reads-back d l b four h =
-    let good-next = good-goes-on d l b four (replies-good d l b h) in
+    let good-next = good-goes-on d l b (replies-good d l b h) in
     let s = content-of l in
     each-answer (λ s. (s .answer .length ≡ 0 → ⊥) → good (s .answer .next) ≡ true → Understood s) Rejecting d l b (λ h. absurd (h refl))
     (λ n k r g h after. reply-understood n d k false (refusalName n) b after (name-data r) (omega (arith, refusal-length n)) (not-zero r)

@@ -17,6 +17,7 @@ use Rattle.units.specs.Units.{place, within, _to_}
 use Rattle.units.proofs.Ranges.{above-least, below-most}
 use Rattle.words.specs.Spelling.{Word}
 use Rattle.command.specs.declared.DeviceSetting.the-variants.{CommAddress}
+use Rattle.command.specs.declared.Setting.{Setting}
 use Rattle.command.specs.declared.Setting.the-variants.{OfAxis, OfDevice}
 use Rattle.command.specs.declared.Command.{Command}
 use Rattle.command.specs.Settings.{deviceSettings}
@@ -31,11 +32,14 @@ use Rattle.host_reader.specs.Spelling.{Data}
 use Rattle.view.specs.View.{valueIn, valuesOf, warningsOf}
 use Rattle.view.specs.declared.Value.{Value}
 use Rattle.view.specs.declared.Value.the-variants as Value
-use Rattle.view.specs.Data.{parkedData, shownBy, textOf, dataOf}
-use Rattle.view.specs.declared.Shown.{Shown}
-use Rattle.view.specs.declared.Shown.the-variants as Shown
+use Rattle.view.specs.Data.{settingData, parkedData, textOf, dataOf}
+use Rattle.command.specs.declared.forms.Form.{Form}
+use Rattle.command.specs.declared.kinds.Data.{Data as Kind}
+use Rattle.command.specs.declared.kinds.Data.the-variants as Kind
+use Rattle.command.specs.Forms.{formOf}
+use Rattle.command.specs.Commands.{demands}
 use Rattle.carriage.proofs.Replies.{good-count}
-use Rattle.roundtrip.proofs.WrittenWords.{word-of}
+use Rattle.phrase.proofs.Written.{word-of}
 use Rattle.roundtrip.proofs.Texts.{one-data, decimal-word, values-data, list-data, echoed-data}
 
 -- ---- what a good record says of its address and its axis count
@@ -68,23 +72,26 @@ module _ (d : Device) (k : ℕ) (four : length (d .axes) ≡ 4) (some : 1 ≤ d 
   unfolding valuesOf
   values-said v = values-data (map (valueIn v) (axesOf d k)) (rw (length-map (axesOf d k) (valueIn v)) axes-some)
 
-  text-said : {ws : List (List ℕ)} → Each Word ws → (x : Shown) → Data (textOf d k ws x)
+  setting-said : (x : Setting) → Data (settingData d k x)
+  setting-said (OfAxis x) = values-said (Value.Of x)
+  setting-said (OfDevice x) = one-data (decimal-word (value x d .0))
+
+  text-said : {ws : List (List ℕ)} → Each Word ws → (f : Form) (x : Kind) → Data (textOf d k ws f x)
   unfolding text parkedData
-  text-said h Shown.Nought = one-data (word-of (text "0") refl)
-  text-said h (Shown.Value (OfAxis x)) = values-said (Value.Of x)
-  text-said h (Shown.Value (OfDevice x)) = one-data (decimal-word (value x d .0))
-  text-said h (Shown.StoredAt n) = values-said (Value.Stored n)
-  text-said h Shown.Position = values-said Value.Pos
-  text-said h Shown.Active = list-data (warningsOf d k)
-  text-said h Shown.Parked = go (d .parked)
+  text-said h f Kind.Nought = one-data (word-of (text "0") refl)
+  text-said h f Kind.Values = setting-said (f .setting)
+  text-said h f Kind.Stored = values-said (Value.Stored (f .first))
+  text-said h f Kind.Position = values-said Value.Pos
+  text-said h f Kind.Active = list-data (warningsOf d k)
+  text-said h f Kind.Parked = go (d .parked)
     where
       go : (t : Bool) → Data (cond t (text "1") (text "0"))
       go true = one-data (word-of (text "1") refl)
       go false = one-data (word-of (text "0") refl)
-  text-said h Shown.Words = echoed-data h
+  text-said h f Kind.Words = echoed-data h
 
 pub data-said : {ws : List (List ℕ)} (d : Device) (k : ℕ) (c : Command) → length (d .axes) ≡ 4 → good d ≡ true → refusal d k c ≡ 0
     → Each Word ws → Data (dataOf d k ws c)
 unfolding dataOf badAxis
 data-said d k c four g e h =
-    text-said d k four (good-some d g) (good-count d g) (ltb-false (d .count) k (within-count d k c e)) h (shownBy c)
+    text-said d k four (good-some d g) (good-count d g) (ltb-false (d .count) k (within-count d k c e)) h (formOf c) (demands c .reply)

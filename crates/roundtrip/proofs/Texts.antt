@@ -17,7 +17,7 @@ use Rattle.words.specs.Spelling.{WordByte, Word}
 use Rattle.flags.specs.Flags.{bits, named, warningNames}
 use Rattle.reply.specs.Data.{values, warningsIn, warningList, echoed}
 use Rattle.host_reader.specs.Spelling.{Bytes, Data}
-use Rattle.roundtrip.proofs.WrittenWords.{word-of}
+use Rattle.phrase.proofs.Written.{word-of}
 
 -- ---- words with single spaces between are data
 word-bytes : {w t : List ℕ} → Word w → Bytes t → Bytes (w ++ t)

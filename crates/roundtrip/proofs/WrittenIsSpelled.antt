@@ -5,7 +5,7 @@ use mathlib.Core.Bool.{Bool}
 use mathlib.Core.List.{List}
 use Prim.Native.Nat.{ℕ}
 use lib.ListN.{take}
-use Rattle.phrase.specs.Types.{Command}
+use Rattle.command.specs.declared.Command.{Command}
 use Rattle.line.specs.Spelling.{Line}
 use Rattle.line.proofs.Demand3.{demand-3}
 use Rattle.host_writer.specs.Writing.{writeLine}

@@ -1,6 +1,8 @@
 -- Places beyond the axis count never change, under any command or report, over every record.
 -- Assumes nothing.
 use mathlib.Core.Path.{_≡_, refl, ap, _∙_}
+use mathlib.Core.Bool.{false}
+use mathlib.Core.List.{List}
 use Prim.Native.Nat.{ℕ, _+_, _-_, _≤_}
 use native.Mathlib.Decide.{ℕ-discrete}
 use native.Mathlib.Omega.{arith}
@@ -10,13 +12,20 @@ use borrow.Author.Tests.{ltb-false, leb-true, eq-eqb, ne-eqb}
 use Rattle.laws.proofs.Bools.{and-right}
 use Rattle.laws.proofs.Walks.{change-beyond, length-change}
 use Rattle.units.specs.Units.{place}
+use Rattle.command.specs.declared.DeviceCommand.{DeviceCommand}
+use Rattle.command.specs.declared.DeviceCommand.the-variants.{Get, Set, ParkingState, Park, Unpark, Echo}
+use Rattle.command.specs.declared.Command.{Command}
+use Rattle.command.specs.declared.Command.the-variants.{OfAxes, OfDevice}
+use Rattle.settings.specs.Types.{Number, CommAddress, CommAlert, CommChecksum, SystemAccess, DeviceId, SystemAxisCount}
+use Rattle.axis.specs.declared.Axis.{Axis}
+use Rattle.axis.specs.declared.reports.Report.{Report}
 use Rattle.axis.specs.Record.{freshAxis}
 use Rattle.axis.specs.Reports.{reported}
 use Rattle.axis.specs.Commands.{axisAfter}
+use Rattle.device.specs.declared.Device.{Device}
 use Rattle.device.specs.Record.{many, onAxes}
-use Rattle.rules.specs.Types.{Setting, OfAxis, OfDevice, Number, Command, Nothing, Home, Stop, Estop, MoveTo, MoveVel, Get, Set, Storepos, StoreposAt, StoreposCurrent, Warnings, WarningsClear, ParkingState, Park, Unpark, Echo, CommAddress, CommAlert, CommChecksum, SystemAccess, DeviceId, SystemAxisCount, Axis, Report, Device}
 use Rattle.rules.specs.Refusals.{badAxis}
-use Rattle.rules.specs.Effects.{putSetting, deviceAfter, next, obey}
+use Rattle.rules.specs.Effects.{deviceAfter, next, obey}
 use Rattle.rules.specs.Reports.{isAxis, report}
 use Rattle.rules.proofs.Accepted.{within-count, an-axis}
 use Rattle.rules.proofs.RefusalKeeps.{refusal-keeps, accepted-next, report-keeps, report-next}
@@ -35,41 +44,30 @@ pub beyond-axes : (g : Axis → Axis) (d : Device) (k i : ℕ) → k ≤ d .coun
 unfolding onAxes
 beyond-axes g d k i h l = change-beyond g freshAxis (k - 1) (many d k) i (d .axes) (omega (arith, below d k h))
 
-set-axes : (s : Setting) (n : Number) (d : Device) → putSetting s n d .axes ≡ d .axes
-set-axes (OfAxis s) n d = refl
-set-axes (OfDevice CommAddress) n d = refl
-set-axes (OfDevice CommAlert) n d = refl
-set-axes (OfDevice CommChecksum) n d = refl
-set-axes (OfDevice SystemAccess) n d = refl
-set-axes (OfDevice DeviceId) n d = refl
-set-axes (OfDevice SystemAxisCount) n d = refl
-
--- the device's own part of a command touches no axis
-pub after-axes : (c : Command) (d : Device) → deviceAfter c d .axes ≡ d .axes
-after-axes Nothing d = refl
-after-axes Home d = refl
-after-axes Stop d = refl
-after-axes Estop d = refl
-after-axes (MoveTo t) d = refl
-after-axes (MoveVel v) d = refl
+-- a command of the device touches no axis
+after-axes : (c : DeviceCommand) (d : Device) → deviceAfter c d .axes ≡ d .axes
 after-axes (Get s) d = refl
-after-axes (Set s n) d = set-axes s n d
-after-axes (Storepos n) d = refl
-after-axes (StoreposAt n p) d = refl
-after-axes (StoreposCurrent n) d = refl
-after-axes Warnings d = refl
-after-axes WarningsClear d = refl
+after-axes (Set CommAddress n) d = refl
+after-axes (Set CommAlert n) d = refl
+after-axes (Set CommChecksum n) d = refl
+after-axes (Set SystemAccess n) d = refl
+after-axes (Set DeviceId n) d = refl
+after-axes (Set SystemAxisCount n) d = refl
 after-axes ParkingState d = refl
 after-axes Park d = refl
 after-axes Unpark d = refl
 after-axes Echo d = refl
 
+beyond-next : (d : Device) (k : ℕ) (c : Command) (i : ℕ) → badAxis d k ≡ false → d .count ≤ i → at (next d k c) i ≡ at d i
+unfolding next badAxis
+beyond-next d k (OfAxes c) i b l = beyond-axes (axisAfter c) d k i (ltb-false (d .count) k b) l
+beyond-next d k (OfDevice c) i b l = ap (λ (x : List Axis). getD x i freshAxis) (after-axes c d)
+
 pub beyond-count : (d : Device) (k : ℕ) (c : Command) (i : ℕ) → d .count ≤ i → at (obey d k c .next) i ≡ at d i
-unfolding obey next badAxis
+unfolding obey
 beyond-count d k c i l =
     elim (ℕ-discrete (obey d k c .number) 0) [
-      | yes e ↦ ap (λ (x : Device). at x i) (accepted-next d k c e)
-          ∙ rw (after-axes c (onAxes (axisAfter c) k d)) (beyond-axes (axisAfter c) d k i (ltb-false (d .count) k (within-count d k c e)) l)
+      | yes e ↦ ap (λ (x : Device). at x i) (accepted-next d k c e) ∙ beyond-next d k c i (within-count d k c e) l
       | no h ↦ ap (λ (x : Device). at x i) (refusal-keeps d k c h)
     ]
 
@@ -84,15 +82,14 @@ report-beyond d axis r i l =
     ]
 
 -- and there are as many places after it as before
-length-axes : (g : Axis → Axis) (k : ℕ) (d : Device) → length (onAxes g k d .axes) ≡ length (d .axes)
-unfolding onAxes
-length-axes g k d = length-change g (k - 1) (many d k) (d .axes)
+length-next : (d : Device) (k : ℕ) (c : Command) → length (next d k c .axes) ≡ length (d .axes)
+unfolding next onAxes
+length-next d k (OfAxes c) = length-change (axisAfter c) (k - 1) (many d k) (d .axes)
+length-next d k (OfDevice c) = ap length (after-axes c d)
 
 pub places-stay : (d : Device) (k : ℕ) (c : Command) → length (obey d k c .next .axes) ≡ length (d .axes)
-unfolding next
 places-stay d k c =
     elim (ℕ-discrete (obey d k c .number) 0) [
-      | yes e ↦ ap (λ (x : Device). length (x .axes)) (accepted-next d k c e)
-          ∙ rw (after-axes c (onAxes (axisAfter c) k d)) (length-axes (axisAfter c) k d)
+      | yes e ↦ ap (λ (x : Device). length (x .axes)) (accepted-next d k c e) ∙ length-next d k c
       | no h ↦ ap (λ (x : Device). length (x .axes)) (refusal-keeps d k c h)
     ]

@@ -1,34 +1,40 @@
 -- A good record stays good under every command and every motor report.
--- It has four axis places, as every device record has.
+-- Assumes nothing else of the record.
 use mathlib.Core.Path.{_≡_, refl, ap}
 use mathlib.Core.Bool.{Bool, true, false, not, _&&_}
-use Prim.Native.Nat.{ℕ, _-_, _<_}
+use Prim.Native.Nat.{ℕ, _-_}
 use native.Mathlib.Decide.{ℕ-discrete}
 use native.Mathlib.Omega.{arith}
 use lib.Dec.{eqb}
-use lib.IntN.{pos}
-use lib.ListN.{length, length-take}
-use borrow.Author.Tests.{leb-true, eqb-true}
+use borrow.Author.Tests.{eqb-true}
 use Rattle.laws.specs.Lists.{fold, all, any}
 use Rattle.laws.proofs.Bools.{and-left, and-right, and-both, not-true, not-false, clash}
 use Rattle.laws.proofs.Walks.{nth, all-where, none-after}
-use Rattle.units.specs.Units.{place, within}
-use Rattle.units.proofs.Ranges.{above-least}
+use Rattle.units.specs.Units.{place}
+use Rattle.command.specs.declared.AxisCommand.{AxisCommand}
+use Rattle.command.specs.declared.DeviceCommand.{DeviceCommand}
+use Rattle.command.specs.declared.DeviceCommand.the-variants.{Get, Set, ParkingState, Park, Unpark, Echo}
+use Rattle.command.specs.declared.Command.{Command}
+use Rattle.command.specs.declared.Command.the-variants.{OfAxes, OfDevice}
+use Rattle.command.specs.Commands.{demands}
 use Rattle.command.specs.Settings.{deviceSettings}
-use Rattle.settings.specs.Settings.{deviceRange}
-use Rattle.axis.specs.Record.{freshAxis, moving}
+use Rattle.settings.specs.Types.{Number, DeviceSetting, CommAddress, CommAlert, CommChecksum, SystemAccess, DeviceId, SystemAxisCount}
+use Rattle.settings.specs.Settings.{deviceAllows}
+use Rattle.axis.specs.declared.Axis.{Axis}
+use Rattle.axis.specs.declared.reports.Report.{Report}
+use Rattle.axis.specs.Record.{moving}
 use Rattle.axis.specs.Good.{goodAxis}
 use Rattle.axis.specs.Reports.{takes, reported}
 use Rattle.axis.proofs.GoodUnderReports.{reported-good, reported-still}
-use Rattle.axis.specs.Commands.{demands, permits, axisAfter}
+use Rattle.axis.specs.Commands.{permits, axisAfter}
 use Rattle.axis.proofs.GoodUnderCommands.{after-good, after-still}
+use Rattle.device.specs.declared.Device.{Device}
 use Rattle.device.specs.Record.{many, axesOf, onAxes, put, withParked}
 use Rattle.device.specs.Good.{inRange, good}
-use Rattle.rules.specs.Types.{Number, DeviceSetting, CommAddress, CommAlert, CommChecksum, SystemAccess, DeviceId, SystemAxisCount, OfAxis, OfDevice, Command, Nothing, Home, Stop, Estop, MoveTo, MoveVel, Get, Set, Storepos, StoreposAt, StoreposCurrent, Warnings, WarningsClear, ParkingState, Park, Unpark, Echo, Axis, Report, Device}
 use Rattle.rules.specs.Refusals.{deviceOnly, parked, statusBusy, refusal}
-use Rattle.rules.specs.Effects.{next, obey}
+use Rattle.rules.specs.Effects.{deviceAfter, next, obey}
 use Rattle.rules.specs.Reports.{report}
-use Rattle.rules.proofs.Accepted.{in-scope, not-parked, not-busy, each-permits, taken}
+use Rattle.rules.proofs.Accepted.{in-scope, not-parked, not-busy, each-permits, device-takes, taken}
 use Rattle.rules.proofs.RefusalKeeps.{refusal-keeps, accepted-next, report-keeps, report-next}
 
 -- the parts of goodness, by name
@@ -120,7 +126,7 @@ module _ (n : Number) (d : Device) (h : Good d) where
   old : (x : DeviceSetting) → inRange d x ≡ true
   old = one (inRange d) (h .settings)
 
-  put-good : (x : DeviceSetting) → within (deviceRange x) (n .0) ≡ true → Good (put x n d)
+  put-good : (x : DeviceSetting) → deviceAllows x n ≡ true → Good (put x n d)
   unfolding axesOf many
   put-good CommAddress w =
       record {
@@ -157,67 +163,44 @@ with-parked : (p : Bool) (d : Device) → Good d → not (p && any moving (axesO
 unfolding axesOf many fold deviceSettings
 with-parked p d h s = record { settings = h .settings; axes = h .axes; still = s }
 
--- a command of device scope is accepted for axis 0 alone, and axis 0 means an axis at least
-whole-device : (k : ℕ) → not (eqb k 0) && true ≡ false → k ≡ 0
-whole-device k h = eqb-true k 0 (not-false (eqb k 0) (and-true-false (not (eqb k 0)) true refl h))
+-- a command of device scope is accepted for axis 0 alone
+whole-device : (k : ℕ) (c : DeviceCommand) → deviceOnly k (OfDevice c) ≡ false → k ≡ 0
+unfolding deviceOnly
+whole-device k c h = eqb-true k 0 (not-false (eqb k 0) h)
 
-some-axis : (d : Device) → length (d .axes) ≡ 4 → Good d → 0 < length (axesOf d 0)
-unfolding axesOf many
-some-axis d four h =
-    let c = leb-true 1 (d .count) (above-least (pos 1) (pos 4) (pos (d .count)) (one (inRange d) (h .settings) SystemAxisCount)) in
-    rw (length-take (d .count) (d .axes), four) (omega arith)
-
-module _ (d : Device) (k : ℕ) (c : Command) (h : Good d) (e : refusal d k c ≡ 0) where
-  -- the axes after the command: on a parked device, none is set in motion
-  axes-after : (u : Bool) → demands c .unparked ≡ u → parked d c ≡ false → Good (onAxes (axisAfter c) k d)
+module _ (d : Device) (k : ℕ) (h : Good d) where
+  -- the axes after a command: on a parked device, none is set in motion
+  axes-after : (c : AxisCommand) → refusal d k (OfAxes c) ≡ 0 → (u : Bool) → demands (OfAxes c) .unparked ≡ u
+      → Good (onAxes (axisAfter c) k d)
   unfolding parked
-  axes-after true u p = moved-good d k (axisAfter c) (permits c) (each-permits d k c e) (after-good c) h
-      (and-true-false (d .parked) (demands c .unparked) u p)
-  axes-after false u p = still-good d k (axisAfter c) (permits c) (each-permits d k c e) (after-good c) h (after-still c u)
+  axes-after c e true u = moved-good d k (axisAfter c) (permits c) (each-permits d k c e) (after-good c) h
+      (and-true-false (d .parked) (demands (OfAxes c) .unparked) u (not-parked d k (OfAxes c) e))
+  axes-after c e false u = still-good d k (axisAfter c) (permits c) (each-permits d k c e) (after-good c) h (after-still c u)
 
-  changed : Good (onAxes (axisAfter c) k d)
-  changed = axes-after (demands c .unparked) refl (not-parked d k c e)
+  -- park meets no axis in motion
+  none-moving : refusal d k (OfDevice Park) ≡ 0 → any moving (axesOf d 0) ≡ false
+  unfolding statusBusy
+  none-moving e = rw (whole-device k Park (in-scope d k (OfDevice Park) e)) at (not-busy d k (OfDevice Park) e)
 
--- the number is in range for an axis at least, and its range looks at no axis
-in-range : (d : Device) → length (d .axes) ≡ 4 → Good d → (k : ℕ) → k ≡ 0 → (b : Bool) → all (λ a. b) (axesOf d k) ≡ true → b ≡ true
-in-range d four h k z b e = nth (λ a. b) (axesOf d 0) freshAxis 0 (some-axis d four h) (rw z at e)
+  device-after : (c : DeviceCommand) → refusal d k (OfDevice c) ≡ 0 → Good (deviceAfter c d)
+  device-after (Get s) e = h
+  device-after (Set s n) e = put-good n d h s (device-takes d k (Set s n) e)
+  device-after ParkingState e = h
+  device-after Park e = with-parked true d h (ap not (none-moving e))
+  device-after Unpark e = with-parked false d h refl
+  device-after Echo e = h
 
-none-moving : (d : Device) (k : ℕ) → k ≡ 0 → any moving (axesOf d k) ≡ false → any moving (axesOf (onAxes (axisAfter Park) k d) 0) ≡ false
-unfolding axesOf onAxes many
-none-moving d k z e = none-after moving (axisAfter Park) (λ a h. h) (k - 1) (many d k) (d .count) (d .axes) (rw z at e)
-
-next-good : (d : Device) (k : ℕ) (c : Command) → length (d .axes) ≡ 4 → Good d → refusal d k c ≡ 0 → Good (next d k c)
-unfolding next deviceOnly statusBusy
-next-good d k Nothing four h e = changed d k Nothing h e
-next-good d k Home four h e = changed d k Home h e
-next-good d k Stop four h e = changed d k Stop h e
-next-good d k Estop four h e = changed d k Estop h e
-next-good d k (MoveTo t) four h e = changed d k (MoveTo t) h e
-next-good d k (MoveVel v) four h e = changed d k (MoveVel v) h e
-next-good d k (Get s) four h e = changed d k (Get s) h e
-next-good d k (Set (OfAxis x) n) four h e = changed d k (Set (OfAxis x) n) h e
-next-good d k (Set (OfDevice x) n) four h e =
-    put-good n (onAxes (axisAfter (Set (OfDevice x) n)) k d) (changed d k (Set (OfDevice x) n) h e) x
-    (in-range d four h k (whole-device k (in-scope d k (Set (OfDevice x) n) e)) (within (deviceRange x) (n .0))
-    (each-permits d k (Set (OfDevice x) n) e))
-next-good d k (Storepos n) four h e = changed d k (Storepos n) h e
-next-good d k (StoreposAt n p) four h e = changed d k (StoreposAt n p) h e
-next-good d k (StoreposCurrent n) four h e = changed d k (StoreposCurrent n) h e
-next-good d k Warnings four h e = changed d k Warnings h e
-next-good d k WarningsClear four h e = changed d k WarningsClear h e
-next-good d k ParkingState four h e = changed d k ParkingState h e
-next-good d k Park four h e =
-    with-parked true (onAxes (axisAfter Park) k d) (changed d k Park h e)
-    (ap not (none-moving d k (whole-device k (in-scope d k Park e)) (not-busy d k Park e)))
-next-good d k Unpark four h e = with-parked false (onAxes (axisAfter Unpark) k d) (changed d k Unpark h e) refl
-next-good d k Echo four h e = changed d k Echo h e
+  next-good : (c : Command) → refusal d k c ≡ 0 → Good (next d k c)
+  unfolding next
+  next-good (OfAxes c) e = axes-after c e (demands (OfAxes c) .unparked) refl
+  next-good (OfDevice c) e = device-after c e
 
 -- "a good record": under every command
-pub good-stays : (d : Device) (k : ℕ) (c : Command) → length (d .axes) ≡ 4 → good d ≡ true → good (obey d k c .next) ≡ true
+pub good-stays : (d : Device) (k : ℕ) (c : Command) → good d ≡ true → good (obey d k c .next) ≡ true
 unfolding obey
-good-stays d k c four h =
+good-stays d k c h =
     elim (ℕ-discrete (obey d k c .number) 0) [
-      | yes e ↦ rw (accepted-next d k c e) (whole (next d k c) (next-good d k c four (parts d h) e))
+      | yes e ↦ rw (accepted-next d k c e) (whole (next d k c) (next-good d k (parts d h) c e))
       | no n ↦ rw (refusal-keeps d k c n) h
     ]
 

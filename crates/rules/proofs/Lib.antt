@@ -6,3 +6,4 @@ pub mod OutsideRefused
 pub mod BeyondCount
 pub mod GoodStays
 pub mod Cases
+pub mod Ruled

@@ -11,18 +11,26 @@ use lib.Signed.{leZ}
 use borrow.Author.Tests.{le-ltb, leb-true}
 use Rattle.laws.specs.Lists.{fold, all, any}
 use Rattle.laws.specs.Refusals.{firstOf}
-use Rattle.laws.proofs.Bools.{and-left, and-right, and-both, and-false, clash, is-true}
+use Rattle.laws.proofs.Bools.{and-left, and-right, and-both, clash, is-true}
 use Rattle.laws.proofs.Walks.{nth}
 use Rattle.units.specs.Units.{place}
 use Rattle.units.proofs.Ranges.{above-least}
+use Rattle.command.specs.declared.AxisCommand.the-variants.{MoveTo}
+use Rattle.command.specs.declared.Command.the-variants.{OfAxes}
 use Rattle.command.specs.Settings.{deviceSettings}
+use Rattle.settings.specs.Types.{CommAddress, Target, Min}
+use Rattle.command.specs.declared.kinds.Demands.{Demands}
+use Rattle.command.specs.Commands.{demands}
+use Rattle.axis.specs.declared.Axis.{Axis}
 use Rattle.axis.specs.Travel.{target, exists, between, mayMoveTo}
 use Rattle.axis.specs.Good.{goodAxis}
 use Rattle.axis.specs.Record.{moving}
+use Rattle.axis.specs.Commands.{permits}
+use Rattle.axis.proofs.MoveDemands.{move-demands}
+use Rattle.device.specs.declared.Device.{Device}
 use Rattle.device.specs.Record.{axesOf}
 use Rattle.device.specs.Good.{inRange, good}
-use Rattle.rules.specs.Types.{CommAddress, Target, MoveTo, Axis, Device}
-use Rattle.rules.specs.Refusals.{badAxis, deviceOnly, noAccess, parked, statusBusy, badData, refusal}
+use Rattle.rules.specs.Refusals.{badAxis, deviceOnly, noAccess, parked, statusBusy, badData, rows, refusal}
 use Rattle.rules.specs.Effects.{obey}
 use Rattle.rules.proofs.Accepted.{each-permits}
 use Rattle.rules.proofs.RefusalKeeps.{refusal-keeps}
@@ -45,17 +53,17 @@ is-false true h = absurd (h refl)
 is-false false h = refl
 
 module _ (d : Device) (k : ℕ) (t : Target) (out : inside t (axesOf d k) ≡ false) where
-  some-may-not : all (mayMoveTo t) (axesOf d k) ≡ false
-  some-may-not = is-false (all (mayMoveTo t) (axesOf d k)) (λ h. clash (may-inside t (axesOf d k) h) out)
+  some-may-not : all (permits (MoveTo t)) (axesOf d k) ≡ false
+  some-may-not = is-false (all (permits (MoveTo t)) (axesOf d k)) (λ h. clash (may-inside t (axesOf d k) h) out)
 
   -- over every record: the move is refused
-  pub outside-refused : obey d k (MoveTo t) .number ≡ 0 → ⊥
+  pub outside-refused : obey d k (OfAxes (MoveTo t)) .number ≡ 0 → ⊥
   unfolding obey
   outside-refused e = clash (each-permits d k (MoveTo t) e) some-may-not
 
   -- and no axis moves: nothing changes at all
-  pub outside-keeps : obey d k (MoveTo t) .next ≡ d
-  outside-keeps = refusal-keeps d k (MoveTo t) outside-refused
+  pub outside-keeps : obey d k (OfAxes (MoveTo t)) .next ≡ d
+  outside-keeps = refusal-keeps d k (OfAxes (MoveTo t)) outside-refused
 
 -- a good record has access 1 or more
 some-access : (z : ℤ) → leZ (pos 1) z ≡ true → ltb (place z) 1 ≡ false
@@ -71,7 +79,9 @@ enough-access d g =
 
 -- the earlier checks that a move can meet are 12 BADAXIS and 15 PARKED
 pub outside-11 : (d : Device) (k : ℕ) (t : Target) → good d ≡ true → badAxis d k ≡ false → d .parked ≡ false
-    → inside t (axesOf d k) ≡ false → obey d k (MoveTo t) .number ≡ 11
+    → inside t (axesOf d k) ≡ false → obey d k (OfAxes (MoveTo t)) .number ≡ 11
 unfolding obey refusal firstOf deviceOnly noAccess parked statusBusy badData
-outside-11 d k t g a p out =
-    simp (a, enough-access d g, p, some-may-not d k t out, and-false)
+outside-11 d k t g a p out = go (demands (OfAxes (MoveTo t))) (move-demands t)
+  where
+    go : (x : Demands) → x ≡ demands (OfAxes (MoveTo Min)) → firstOf (rows d k (OfAxes (MoveTo t)) x) ≡ 11
+    go x e = rw e (simp (a, enough-access d g, p, some-may-not d k t out))

@@ -6,7 +6,10 @@ use borrow.Author.Tests.{eq-eqb, ne-eqb}
 use Rattle.units.specs.Units.{place}
 use Rattle.axis.specs.Reports.{reported}
 use Rattle.device.specs.Record.{onAxes}
-use Rattle.rules.specs.Types.{Number, Command, Report, Device}
+use Rattle.command.specs.declared.Command.{Command}
+use Rattle.settings.specs.Types.{Number}
+use Rattle.axis.specs.declared.reports.Report.{Report}
+use Rattle.device.specs.declared.Device.{Device}
 use Rattle.rules.specs.Refusals.{refusal}
 use Rattle.rules.specs.Effects.{next, obey}
 use Rattle.rules.specs.Reports.{reportRefusal, report}

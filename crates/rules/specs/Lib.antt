@@ -1,4 +1,3 @@
-pub mod Types
 pub mod Refusals
 pub mod Effects
 pub mod Reports

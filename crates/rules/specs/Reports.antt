@@ -8,7 +8,10 @@ use Rattle.laws.specs.Lists.{all}
 use Rattle.laws.specs.Refusals.{_when_, firstOf, BADSTATE, BADREPORT}
 use Rattle.units.specs.Units.{place}
 use Rattle.axis.specs.Reports.{takes, reported}
-use Rattle.rules.specs.Types.{Number, Report, Device, Outcome}
+use Rattle.settings.specs.Types.{Number}
+use Rattle.axis.specs.declared.reports.Report.{Report}
+use Rattle.device.specs.declared.Device.{Device}
+use Rattle.device.specs.declared.Outcome.{Outcome}
 use Rattle.device.specs.Record.{axesOf, onAxes}
 use Rattle.device.specs.Good.{good}
 

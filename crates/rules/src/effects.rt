@@ -1,25 +1,15 @@
 // What each command does to the record, where it is accepted.
-// The axes that the command concerns are changed first, then the device itself.
+// A command changes the axes that it concerns, or the device itself.
 ghost use mathlib.Core.Path.{_≡_};
 ghost use Rattle.device.specs.Record.{withParked};
-ghost use Rattle.rules.specs.Effects.{putSetting, deviceAfter, next as nextOf, obey as obeyOf};
-use crate::refusals::refusal;
+ghost use Rattle.rules.specs.Effects.{deviceAfter, next as nextOf, obey as obeyOf};
+use crate::refusals::rule;
 use command::Command;
-use command::Setting;
+use command::DeviceCommand;
 use device::Device;
 use device::Outcome;
 use device::walks::Change;
 use laws::ACCEPTED;
-use units::Number;
-
-fn put_setting(d: Device, s: Setting, n: Number) -> Device
-    ensures { λ r. ⌜ r ≡ putSetting s n d ⌝ }
-{
-    match s {
-        Setting::OfAxis(_) => d,
-        Setting::OfDevice(x) => d.put(x, n),
-    }
-}
 
 fn with_parked(mut d: Device, parked: bool) -> Device
     ensures { λ r. ⌜ r ≡ withParked parked d ⌝ }
@@ -28,27 +18,16 @@ fn with_parked(mut d: Device, parked: bool) -> Device
     d
 }
 
-fn after(d: Device, c: Command) -> Device
+fn after(d: Device, c: DeviceCommand) -> Device
     ensures { λ r. ⌜ r ≡ deviceAfter c d ⌝ }
 {
     match c {
-        Command::Nothing => d,
-        Command::Home => d,
-        Command::Stop => d,
-        Command::Estop => d,
-        Command::MoveTo(_) => d,
-        Command::MoveVel(_) => d,
-        Command::Get(_) => d,
-        Command::Set(s, n) => put_setting(d, s, n),
-        Command::Storepos(_) => d,
-        Command::StoreposAt(_, _) => d,
-        Command::StoreposCurrent(_) => d,
-        Command::Warnings => d,
-        Command::WarningsClear => d,
-        Command::ParkingState => d,
-        Command::Park => with_parked(d, true),
-        Command::Unpark => with_parked(d, false),
-        Command::Echo => d,
+        DeviceCommand::Get(_) => d,
+        DeviceCommand::Set(s, n) => d.put(s, n),
+        DeviceCommand::ParkingState => d,
+        DeviceCommand::Park => with_parked(d, true),
+        DeviceCommand::Unpark => with_parked(d, false),
+        DeviceCommand::Echo => d,
     }
 }
 
@@ -56,10 +35,9 @@ fn after(d: Device, c: Command) -> Device
 pub fn next(d: Device, k: u64, c: Command) -> Device
     ensures { λ r. ⌜ r ≡ nextOf d k c ⌝ }
 {
-    if axis::commands::only_shows(c) {
-        d
-    } else {
-        after(d.change(k, Change::Obey(c)), c)
+    match c {
+        Command::OfAxes(a) => d.change(k, Change::Obey(a)),
+        Command::OfDevice(a) => after(d, a),
     }
 }
 
@@ -67,13 +45,16 @@ pub fn next(d: Device, k: u64, c: Command) -> Device
 pub fn obey(d: Device, k: u64, c: Command) -> Outcome
     ensures { λ r. ⌜ r ≡ obeyOf d k c ⌝ }
 {
-    let n = refusal(d, k, c);
-    if n == 0 {
+    let r = rule(d, k, c);
+    if r.number == 0 {
         Outcome {
             number: ACCEPTED,
             next: next(d, k, c),
         }
     } else {
-        Outcome { number: n, next: d }
+        Outcome {
+            number: r.number,
+            next: d,
+        }
     }
 }

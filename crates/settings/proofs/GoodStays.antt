@@ -8,11 +8,12 @@ use lib.Signed.{leZ}
 use Rattle.laws.specs.Lists.{fold, all}
 use Rattle.laws.proofs.Bools.{and-both}
 use Rattle.laws.proofs.Walks.{nth}
-use Rattle.units.specs.Units.{minus, within}
+use Rattle.units.specs.Units.{minus}
 use Rattle.units.proofs.Ranges.{above-least, below-most}
 use Rattle.command.specs.Settings.{axisSettings}
-use Rattle.settings.specs.Types.{Number, AxisSetting, Pos, LimitMin, LimitMax, MaxSpeed, Accel, DriverCurrentMax, DriverCurrentRun, DriverCurrentHold, DriverDir, EncoderIndexCount, Settings}
-use Rattle.settings.specs.Settings.{range, inRange, put}
+use Rattle.settings.specs.Types.{Number, AxisSetting, Pos, LimitMin, LimitMax, MaxSpeed, Accel, DriverCurrentMax, DriverCurrentRun, DriverCurrentHold, DriverDir, EncoderIndexCount}
+use Rattle.settings.specs.declared.Settings.{Settings}
+use Rattle.settings.specs.Settings.{allows, inRange, put}
 
 -- all settings pass a test where each does, and each where all do
 module _ (f : AxisSetting → Bool) where
@@ -39,7 +40,7 @@ module _ (n : Number) (s : Settings) (good : all (inRange s) axisSettings ≡ tr
   old : (x : AxisSetting) → inRange s x ≡ true
   old = one (inRange s) good
 
-  pub put-good : (x : AxisSetting) → within (range x s) (n .0) ≡ true → all (inRange (put x n s)) axisSettings ≡ true
+  pub put-good : (x : AxisSetting) → allows x n s ≡ true → all (inRange (put x n s)) axisSettings ≡ true
   put-good Pos h =
       every (inRange (put Pos n s)) h (old LimitMin) (old LimitMax) (old MaxSpeed) (old Accel) (old DriverCurrentMax)
       (old DriverCurrentRun) (old DriverCurrentHold) (old DriverDir) (old EncoderIndexCount)

@@ -2,7 +2,10 @@
 -- Nothing here says what is right or wrong.
 use lib.IntN.{pos}
 use Rattle.units.specs.Units.{position, speed, number}
-use Rattle.settings.specs.Types.{Position, Speed, Number, Limit, Current, Settings}
+use Rattle.settings.specs.Types.{Position, Speed, Number}
+use Rattle.settings.specs.declared.Limit.{Limit}
+use Rattle.settings.specs.declared.Current.{Current}
+use Rattle.settings.specs.declared.Settings.{Settings}
 
 abbrev pub limit : Position → Position → Limit
 limit l h = record { min = l; max = h }

@@ -3,7 +3,8 @@
 use mathlib.Core.Bool.{Bool}
 use lib.IntN.{pos}
 use Rattle.units.specs.Units.{minus, position, speed, number, _to_, within}
-use Rattle.settings.specs.Types.{Number, Range, AxisSetting, Pos, LimitMin, LimitMax, MaxSpeed, Accel, DriverCurrentMax, DriverCurrentRun, DriverCurrentHold, DriverDir, EncoderIndexCount, DeviceSetting, CommAddress, CommAlert, CommChecksum, SystemAccess, DeviceId, SystemAxisCount, Setting, OfAxis, OfDevice, Settings}
+use Rattle.settings.specs.Types.{Number, Range, AxisSetting, Pos, LimitMin, LimitMax, MaxSpeed, Accel, DriverCurrentMax, DriverCurrentRun, DriverCurrentHold, DriverDir, EncoderIndexCount, DeviceSetting, CommAddress, CommAlert, CommChecksum, SystemAccess, DeviceId, SystemAxisCount}
+use Rattle.settings.specs.declared.Settings.{Settings}
 use Rattle.settings.specs.Record.{settings, limit, current}
 
 -- a range's ends may be other settings of the axis: "min not above max", "0 to driver.current.max"
@@ -40,8 +41,15 @@ value DriverCurrentHold s = s .current .hold
 value DriverDir s = s .dir
 value EncoderIndexCount s = s .index
 
+-- whether n may be a setting's value: of an axis, and of the device
+abbrev pub allows : AxisSetting → Number → Settings → Bool
+allows x n s = within (range x s) (n .0)
+
+abbrev pub deviceAllows : DeviceSetting → Number → Bool
+deviceAllows s n = within (deviceRange s) (n .0)
+
 abbrev pub inRange : Settings → AxisSetting → Bool
-inRange s x = within (range x s) (value x s .0)
+inRange s x = allows x (value x s) s
 
 -- an axis's settings with one of them set to n; what is read only stays
 abbrev pub put : AxisSetting → Number → Settings → Settings
@@ -57,8 +65,3 @@ put DriverCurrentHold n s = settings (s .pos) (s .limit) (s .maxspeed) (s .accel
     (s .index)
 put DriverDir n s = settings (s .pos) (s .limit) (s .maxspeed) (s .accel) (s .current) n (s .index)
 put EncoderIndexCount n s = settings (s .pos) (s .limit) (s .maxspeed) (s .accel) (s .current) (s .dir) n
-
--- whether n may be a setting's value
-abbrev pub allows : Setting → Number → Settings → Bool
-allows (OfAxis x) n s = within (range x s) (n .0)
-allows (OfDevice x) n s = within (deviceRange x) (n .0)

@@ -4,10 +4,9 @@ ghost use mathlib.Core.Path.{_≡_};
 ghost use Rattle.laws.specs.Lists.{all};
 ghost use Rattle.command.specs.Settings.{axisSettings};
 ghost use Rattle.settings.specs.Record.{freshCurrent, freshSettings};
-ghost use Rattle.settings.specs.Settings.{range as rangeOf, deviceRange, value as valueOf, inRange, put as putOf, allows as allowsOf};
+ghost use Rattle.settings.specs.Settings.{range as rangeOf, deviceRange, value as valueOf, inRange, put as putOf, allows as allowsOf, deviceAllows};
 use command::AxisSetting;
 use command::DeviceSetting;
-use command::Setting;
 use units::Number;
 use units::Position;
 use units::Range;
@@ -37,7 +36,7 @@ pub struct Settings {
     pub index: Number,
 }
 
-pub fn device_range(s: DeviceSetting) -> Range
+fn device_range(s: DeviceSetting) -> Range
     ensures { λ r. ⌜ r ≡ deviceRange s ⌝ }
 {
     match s {
@@ -48,6 +47,13 @@ pub fn device_range(s: DeviceSetting) -> Range
         DeviceSetting::DeviceId => Number(0).to(Number(2147483647)),
         DeviceSetting::SystemAxisCount => Number(1).to(Number(4)),
     }
+}
+
+// May n be the value of a setting of the device?
+pub fn device_allows(s: DeviceSetting, n: Number) -> bool
+    ensures { λ r. ⌜ r ≡ deviceAllows s n ⌝ }
+{
+    n.within(device_range(s))
 }
 
 impl Current {
@@ -125,10 +131,17 @@ impl Settings {
         }
     }
 
+    // May n be a setting's value?
+    pub fn allows(self, s: AxisSetting, n: Number) -> bool
+        ensures { λ r. ⌜ r ≡ allowsOf s n self ⌝ }
+    {
+        n.within(self.range(s))
+    }
+
     fn in_range(self, s: AxisSetting) -> bool
         ensures { λ r. ⌜ r ≡ inRange self s ⌝ }
     {
-        self.value(s).within(self.range(s))
+        self.allows(s, self.value(s))
     }
 
     // The settings with one of them set to n; what is read only stays.
@@ -162,16 +175,6 @@ impl Settings {
             AxisSetting::EncoderIndexCount => self.index = n,
         }
         self
-    }
-
-    // May n be a setting's value?
-    pub fn allows(self, s: Setting, n: Number) -> bool
-        ensures { λ r. ⌜ r ≡ allowsOf s n self ⌝ }
-    {
-        match s {
-            Setting::OfAxis(x) => n.within(self.range(x)),
-            Setting::OfDevice(x) => n.within(device_range(x)),
-        }
     }
 
     // Are all settings in range?

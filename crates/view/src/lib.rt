@@ -1,4 +1,4 @@
-// What a reply shows of a record: its head, and the values of the axes that a number means; in commands.rt the data of each command.
+// What a reply shows of a record: its head, and the values of the axes that a number means; in data.rt the data of each kind.
 // specs/View.antt and specs/Data.antt say it in document 01's words.
 ghost use mathlib.Core.Path.{_≡_};
 ghost use mathlib.Core.List.{map};
@@ -11,7 +11,6 @@ use axis::Axis;
 use buffer::put_byte;
 use buffer::put_signed;
 use command::AxisSetting;
-use command::Setting;
 use device::Device;
 use reply::Head;
 use units::Number;
@@ -21,17 +20,6 @@ pub enum Value {
     Of(AxisSetting),
     Stored(Number),
     Pos,
-}
-
-// The kinds of data that a command's reply has.
-pub enum Shown {
-    Nought,
-    Value(Setting),
-    StoredAt(Number),
-    Position,
-    Active,
-    Parked,
-    Words,
 }
 
 fn shown_axis(d: Device, k: u64) -> u64
@@ -94,4 +82,4 @@ pub fn put_values(buf: &mut [u8], at: usize, d: Device, k: u64, v: Value) -> usi
     put_list(buf, at, axes, v, p.from, p.many)
 }
 
-pub mod commands;
+pub mod data;

@@ -1,13 +1,13 @@
 -- A word's meaning in a table is the one at the word's place; and it is that of the entry which has the word.
 -- Assumes nothing.
 use mathlib.Core.Path.{_≡_, refl, sym, _∙_}
-use mathlib.Core.Logic.{_⊎_, inl, inr}
 use mathlib.Core.Bool.{Bool, true, false}
 use mathlib.Core.List.{List, [], _∷_, map}
 use Prim.Native.Nat.{ℕ, zero, suc, _≤_}
 use native.Mathlib.Omega.{arith}
 use lib.ListN.{length}
 use Rattle.laws.specs.Text.{same}
+use Rattle.laws.proofs.Each.{Each, none, more}
 use Rattle.laws.proofs.Same.{same-true}
 use Rattle.words.specs.Find.{index, Entry, meaningOf, entryAt}
 use Rattle.words.proofs.Index.{index-here, index-past}
@@ -46,15 +46,12 @@ module _ {X : Type 0} (d : X) where
   past-table (e ∷ es) zero h = absurd (omega arith)
   past-table (e ∷ es) (suc k) h = past-table es k (omega arith)
 
-  -- what a meaning says: the word is an entry's, and the meaning is that entry's; or there is none
-  abbrev pub Hits : List ℕ → X → List (Entry X) → Type 0
-  Hits w r [] = d ≡ r
-  Hits w r (e ∷ es) = ((w ≡ e .word) × (e .meaning ≡ r)) ⊎ Hits w r es
-
-  pub hits : (w : List ℕ) (r : X) (es : List (Entry X)) → meaningOf d w es ≡ r → Hits w r es
-  hits w r [] q = sym (meaning-none w) ∙ q
-  hits w r (e ∷ es) q = go (same w (e .word)) refl (hits w r es)
+  -- a meaning r is that of an entry which has the word, or there is no such entry: so what holds of these words holds of this one
+  pub by-entry : (P : List ℕ → Type 0) {r : X} (w : List ℕ) (es : List (Entry X)) → meaningOf d w es ≡ r → (d ≡ r → P w)
+      → Each (λ (e : Entry X). e .meaning ≡ r → P (e .word)) es → P w
+  by-entry P w [] q missing none = missing (sym (meaning-none w) ∙ q)
+  by-entry P {r} w (e ∷ es) q missing (more h hs) = go (same w (e .word)) refl (λ k. by-entry P w es k missing hs)
     where
-      go : (b : Bool) → same w (e .word) ≡ b → (meaningOf d w es ≡ r → Hits w r es) → Hits w r (e ∷ es)
-      go true h ih = inl (same-true w (e .word) h, sym (meaning-here w e es h) ∙ q)
-      go false h ih = inr (ih (sym (meaning-past w e es h) ∙ q))
+      go : (b : Bool) → same w (e .word) ≡ b → (meaningOf d w es ≡ r → P w) → P w
+      go true k rest = rw (same-true w (e .word) k) (h (sym (meaning-here w e es k) ∙ q))
+      go false k rest = rest (sym (meaning-past w e es k) ∙ q)

@@ -1,10 +1,11 @@
 -- `carriage::carry_out` meets its contract: a silence, a rejection, or a command that only shows, or one that makes a next record.
 -- Assumes nothing.
-use mathlib.Core.Path.{sym, _∙_}
+use mathlib.Core.Path.{sym, ap, _∙_}
 use Rattle.words.specs.Cutting.{cut}
 use Rattle.rules.proofs.OnlyShows.{shows-same}
 use Rattle.carriage.proofs.Replies.{good-count, head-digit, next-few}
 use Rattle.carriage.proofs.Rulings.{carried-silent, carried-rejected, carried-accepted, sound}
+use Rattle.command.specs.declared.kinds.Demands.{Demands}
 use borrow.Author.Needs.{needs}
 use Rattle.carriage.proofs.carry_out.Statement.{statement}
 use Rattle.carriage.proofs.carry_out.Tie as tie
@@ -17,7 +18,7 @@ put-rejection-requires c κs =
 put-acceptance-requires : tie.Need-put-acceptance-requires
 put-acceptance-requires c κs =
     let heading-of2 = c .before in
-    let x3 = heading-of2 .before .before .before .before in
+    let x3 = heading-of2 .before .before .before in
     let s = x3 .before .before .before .before in
     let z = sound (s .args .d) (cut (s .args .s .now)) (s .pre .3) (x3 .x3 .given .1) in (
       s .pre .0,
@@ -26,13 +27,14 @@ put-acceptance-requires c κs =
       z .0,
       s .pre .2,
       z .1,
+      ap (λ (y : Demands). y .reply) (z .2),
     )
 
 put-acceptance-requires-2 : tie.Need-put-acceptance-requires-2
 put-acceptance-requires-2 c κs =
     let heading-of3 = c .before in
     let next = heading-of3 .before in
-    let x3 = next .before .before .before .before in
+    let x3 = next .before .before .before in
     let s = x3 .before .before .before .before in
     let z = sound (s .args .d) (cut (s .args .s .now)) (s .pre .3) (x3 .x3 .given .1) in (
       s .pre .0,
@@ -41,6 +43,7 @@ put-acceptance-requires-2 c κs =
       z .0,
       s .pre .2,
       z .1,
+      ap (λ (y : Demands). y .reply) (z .2),
     )
 
 returns : tie.Need-returns
@@ -64,11 +67,11 @@ returns-3 c =
     let put-acceptance = c .before .before .before in
     let heading-of2 = put-acceptance .before .before in
     let if1 = heading-of2 .before in
-    let only-shows = if1 .before in
-    let x3 = only-shows .before .before in
+    let x3 = if1 .before .before in
     let s = x3 .before .before .before .before in
-    carried-accepted (s .args .d) (cut (s .args .s .now)) (s .args .reply .now) (s .pre .0) (s .pre .1) (s .pre .3) _ _ _
-    (x3 .x3 .given .1) (sym (shows-same _ _ _ (sym (only-shows .only-shows .ensures) ∙ if1 .if1 .taken)))
+    let z = sound (s .args .d) (cut (s .args .s .now)) (s .pre .3) (x3 .x3 .given .1) in
+    carried-accepted (s .args .d) (cut (s .args .s .now)) (s .args .reply .now) (s .pre .0) (s .pre .1) (s .pre .3) _ _ _ _
+    (x3 .x3 .given .1) (sym (shows-same _ _ _ (sym (ap (λ (y : Demands). y .shows) (z .2)) ∙ if1 .if1 .taken)))
     (heading-of2 .heading-of2 .ensures) (put-acceptance .put-acceptance .ensures) (c .answer-of3 .ensures)
 
 returns-4 : tie.Need-returns-4
@@ -76,9 +79,9 @@ returns-4 c =
     let put-acceptance2 = c .before .before .before in
     let heading-of3 = put-acceptance2 .before .before in
     let next = heading-of3 .before in
-    let x3 = next .before .before .before .before in
+    let x3 = next .before .before .before in
     let s = x3 .before .before .before .before in
-    carried-accepted (s .args .d) (cut (s .args .s .now)) (s .args .reply .now) (s .pre .0) (s .pre .1) (s .pre .3) _ _ _
+    carried-accepted (s .args .d) (cut (s .args .s .now)) (s .args .reply .now) (s .pre .0) (s .pre .1) (s .pre .3) _ _ _ _
     (x3 .x3 .given .1) (next .next .ensures)
     (heading-of3 .heading-of3 .ensures) (put-acceptance2 .put-acceptance2 .ensures) (c .answer-of4 .ensures)
 
@@ -86,6 +89,6 @@ pub carry-out-spec : {M : Type 1} → statement M
 carry-out-spec =
     tie.close
     (tie.spec (λ c. search needs) (λ c κs. search needs) (λ c. search needs) (λ c κs. search needs) put-rejection-requires
-    (λ c κs. search needs) (λ c. search needs) (λ c κs. search needs) (λ c κs. search needs) put-acceptance-requires (λ c κs. search needs)
+    (λ c κs. search needs) (λ c. search needs) (λ c κs. search needs) put-acceptance-requires (λ c κs. search needs)
     (λ c κs. search needs) (λ c κs. search needs) put-acceptance-requires-2 (λ c κs. search needs) returns (λ c. search needs) returns-2
     (λ c. search needs) returns-3 (λ c. search needs) returns-4)

@@ -9,10 +9,16 @@ returns : tie.Need-returns
 returns c = simp (c .before .w .given .1)
 
 returns-2 : tie.Need-returns-2
-returns-2 c = ruled-accepted _ _ _ _ (c .before .before .before .w2 .given .1) (c .before .refusal .ensures) (c .if1 .taken)
+returns-2 c =
+    let rule = c .before .before .before in
+    let w2 = rule .before .before in
+    ruled-accepted _ _ _ _ (w2 .w2 .given .1) (rule .rule .ensures) (c .if1 .taken)
 
 returns-3 : tie.Need-returns-3
-returns-3 c = ruled-rejected _ _ _ _ (c .before .before .before .w2 .given .1) (c .before .refusal .ensures) (c .if1 .left)
+returns-3 c =
+    let rule = c .before .before .before in
+    let w2 = rule .before .before in
+    ruled-rejected _ _ _ _ (w2 .w2 .given .1) (rule .rule .ensures) (c .if1 .left)
 
 pub rule-words-spec : {M : Type 1} → statement M
 rule-words-spec =

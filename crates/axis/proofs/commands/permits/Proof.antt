@@ -43,24 +43,11 @@ returns-12 c = simp (c .enum-told6 .given .1)
 returns-13 : tie.Need-returns-13
 returns-13 c = simp (c .enum-told7 .given .1)
 
-returns-14 : tie.Need-returns-14
-returns-14 c = simp (c .enum-told8 .given .1)
-
-returns-15 : tie.Need-returns-15
-returns-15 c = simp (c .enum-told9 .given .1)
-
-returns-16 : tie.Need-returns-16
-returns-16 c = simp (c .enum-told10 .given .1)
-
-returns-17 : tie.Need-returns-17
-returns-17 c = simp (c .enum-told11 .given .1)
-
 pub permits-spec : {M : Type 1} → statement M
 permits-spec =
     tie.close
     (tie.spec (λ c. search needs) (λ c. search needs) (λ c. search needs) (λ c. search needs) (λ c. search needs) (λ c κs. search needs)
     (λ c. search needs) (λ c κs. search needs) (λ c. search needs) (λ c. search needs) (λ c κs. search needs) (λ c. search needs)
     (λ c κs. search needs) (λ c. search needs) (λ c κs. search needs) (λ c. search needs) (λ c κs. search needs) (λ c. search needs)
-    (λ c. search needs) (λ c. search needs) (λ c. search needs) (λ c. search needs) (λ c. search needs) returns returns-2 returns-3
-    returns-4 returns-5 returns-6 returns-7 returns-8 returns-9 returns-10 returns-11 returns-12 returns-13 returns-14 returns-15 returns-16
-    returns-17)
+    (λ c. search needs) returns returns-2 returns-3 returns-4 returns-5 returns-6 returns-7 returns-8 returns-9 returns-10 returns-11
+    returns-12 returns-13)

@@ -9,17 +9,13 @@ returns : tie.Need-returns
 unfolding mayBeFresh
 returns c =
     simp (
-      c .within3 .ensures,
-      c .before .device-range3 .ensures,
-      c .before .before .within2 .ensures,
-      c .before .before .before .device-range2 .ensures,
-      c .before .before .before .before .of-count .ensures,
-      c .before .before .before .before .before .within .ensures,
-      c .before .before .before .before .before .before .device-range .ensures,
+      c .device-allows3 .ensures,
+      c .before .device-allows2 .ensures,
+      c .before .before .of-count .ensures,
+      c .before .before .before .device-allows .ensures,
     )
 
 pub may-be-fresh-spec : {M : Type 1} → statement M
 may-be-fresh-spec =
     tie.close
-    (tie.spec (λ c κs. search needs) (λ c κs. search needs) (λ c κs. search needs) (λ c κs. search needs) (λ c κs. search needs)
-    (λ c κs. search needs) (λ c κs. search needs) returns)
+    (tie.spec (λ c κs. search needs) (λ c κs. search needs) (λ c κs. search needs) (λ c κs. search needs) returns)

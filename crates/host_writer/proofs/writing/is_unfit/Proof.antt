@@ -1,22 +1,20 @@
--- `host_writer::writing::is_unfit` meets its contract: a set, an echo, or any other command.
+-- `host_writer::writing::is_unfit` meets its contract: what its row demands, and its message where it carries words.
 -- Assumes nothing.
-use mathlib.Core.Path.{ap}
-use mathlib.Core.Bool.{not}
-use Rattle.host_writer.proofs.Fits.{fit}
+use Rattle.host_writer.proofs.Unfit.{unfit-is}
 use borrow.Author.Needs.{needs}
 use Rattle.host_writer.proofs.writing.is_unfit.Statement.{statement}
 use Rattle.host_writer.proofs.writing.is_unfit.Tie as tie
 
 returns : tie.Need-returns
-returns c = rw (c .before .before .c .given .1) (c .read-only .ensures)
-
-returns-2 : tie.Need-returns-2
-returns-2 c = rw (c .before .enum-told .given .1) (ap not (c .is-plain .ensures))
-
-returns-3 : tie.Need-returns-3
-returns-3 c = fit (c .before .before .args .c) (c .before .before .args .message .now) (c .match .keys3)
+returns c =
+    let plain = c .before in
+    let words = plain .before in
+    let demands = words .before in
+    let form = demands .before in
+    let start = form .before .before in
+    unfit-is (start .args .c) (start .args .message .now) (form .form .ensures) (demands .demands .ensures) (words .words .ensures)
+    (plain .is-plain .ensures)
 
 pub is-unfit-spec : {M : Type 1} → statement M
-is-unfit-spec =
-    tie.close
-    (tie.spec (λ c. search needs) (λ c κs. search needs) (λ c. search needs) (λ c κs. search needs) returns returns-2 returns-3)
+is-unfit-spec = tie.close
+    (tie.spec (λ c κs. search needs) (λ c κs. search needs) (λ c κs. search needs) (λ c κs. search needs) returns)

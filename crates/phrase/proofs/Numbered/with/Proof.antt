@@ -17,7 +17,7 @@ returns-4 : tie.Need-returns-4
 returns-4 c = simp (c .enum-told4 .given .1)
 
 returns-5 : tie.Need-returns-5
-returns-5 c = simp (c .before .self .given .1)
+returns-5 c = simp (c .set-command .ensures, c .before .before .self .given .1)
 
 returns-6 : tie.Need-returns-6
 returns-6 c = simp (c .enum-told5 .given .1)
@@ -32,5 +32,5 @@ pub with-spec : {M : Type 1} → statement M
 with-spec =
     tie.close
     (tie.spec (λ c. search needs) (λ c κs. search needs) (λ c. search needs) (λ c κs. search needs) (λ c. search needs)
-    (λ c κs. search needs) (λ c. search needs) (λ c. search needs) (λ c. search needs) (λ c. search needs) (λ c κs. search needs)
-    (λ c. search needs) returns returns-2 returns-3 returns-4 returns-5 returns-6 returns-7 returns-8)
+    (λ c κs. search needs) (λ c. search needs) (λ c. search needs) (λ c κs. search needs) (λ c. search needs) (λ c. search needs)
+    (λ c κs. search needs) (λ c. search needs) returns returns-2 returns-3 returns-4 returns-5 returns-6 returns-7 returns-8)

@@ -7,8 +7,9 @@ use Rattle.rules.proofs.refusals.no_access.Tie as tie
 
 returns : tie.Need-returns
 unfolding noAccess
-returns c = simp (c .before .of .ensures, c .before .before .place .ensures)
+returns c = simp (c .before .place .ensures)
 
 pub no-access-spec : {M : Type 1} → statement M
-no-access-spec = tie.close
-    (tie.spec (λ c κs. search needs) (λ c κs. search needs) (λ c. search needs) returns)
+no-access-spec =
+    tie.close
+    (tie.spec (λ c κs. search needs) (λ c. search needs) returns)
