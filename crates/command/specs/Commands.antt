@@ -6,9 +6,20 @@ use Prim.Native.Nat.{ℕ}
 use Prim.Native.String.{String}
 use lib.ListN.{getD, length, drop}
 use Rattle.laws.specs.Text.{text}
+use Rattle.units.specs.Units.{position, speed}
+use Rattle.units.specs.declared.Position.{Position as Microsteps}
+use Rattle.units.specs.declared.Number.{Number}
 use Rattle.numbers.specs.Decimal.{decimal}
 use Rattle.command.specs.declared.Setting.{Setting}
+use Rattle.command.specs.declared.Setting.the-variants as Setting
+use Rattle.command.specs.declared.Target.the-variants.{Abs, Rel, Min, Max}
+use Rattle.command.specs.declared.Target.the-variants as Target
+use Rattle.command.specs.declared.AxisCommand.{AxisCommand}
+use Rattle.command.specs.declared.AxisCommand.the-variants as Axis
+use Rattle.command.specs.declared.DeviceCommand.{DeviceCommand}
+use Rattle.command.specs.declared.DeviceCommand.the-variants as Device
 use Rattle.command.specs.declared.Command.{Command}
+use Rattle.command.specs.declared.Command.the-variants.{OfAxes, OfDevice}
 use Rattle.command.specs.declared.forms.Form.{Form}
 use Rattle.command.specs.declared.kinds.Use.{Use}
 use Rattle.command.specs.declared.kinds.Use.the-variants.{Apart, Gets, Sets}
@@ -24,17 +35,41 @@ pub data Place : Type 0 where
   word : List ℕ → Place
   SETTING WRITABLE N P : Place
 
--- the words that tell which row it is; those behind them; and what is constant of it
+-- the words that tell which row it is; those behind them; what is constant of it; and the command that it makes of a setting,
+-- its number and its position
 pub record Row : Type 0 where
   pub front : List Place
   pub behind : List Place
   pub kind : Kind
+  pub makes : Setting → Number → Number → Command
 
 abbrev kind : Use → Bool → Bool → Bool → Data → Kind
 kind u p r s d = record { uses = u; unparked = p; rest = r; shows = s; reply = d }
 
-abbrev row : List Place → List Place → Use → Bool → Bool → Bool → Data → Row
-row front behind u p r s d = record { front = front; behind = behind; kind = kind u p r s d }
+abbrev row : List Place → List Place → Use → Bool → Bool → Bool → Data → (Setting → Number → Number → Command) → Row
+row front behind u p r s d makes = record { front = front; behind = behind; kind = kind u p r s d; makes = makes }
+
+-- a command of axes that carries nothing, its number, its number and its position; a command of the device
+abbrev axes : AxisCommand → Setting → Number → Number → Command
+axes c s n p = OfAxes c
+
+abbrev numbered : (Number → AxisCommand) → Setting → Number → Number → Command
+numbered c s n p = OfAxes (c n)
+
+abbrev positioned : (Number → Microsteps → AxisCommand) → Setting → Number → Number → Command
+positioned c s n p = OfAxes (c n (position (p .0)))
+
+abbrev device : DeviceCommand → Setting → Number → Number → Command
+device c s n p = OfDevice c
+
+-- the scope of `get` and `set` is the "setting's"
+abbrev pub getCommand : Setting → Command
+getCommand (Setting.OfAxis s) = OfAxes (Axis.Get s)
+getCommand (Setting.OfDevice s) = OfDevice (Device.Get s)
+
+abbrev pub setCommand : Setting → Number → Command
+setCommand (Setting.OfAxis s) n = OfAxes (Axis.Set s n)
+setCommand (Setting.OfDevice s) n = OfDevice (Device.Set s n)
 
 -- the words of the table's columns
 abbrev w : String → Place
@@ -60,33 +95,33 @@ changes = false
 
 -- "(none)"
 abbrev pub none : Row
-none = row [] [] Apart anytime evenMoving shows Nought
+none = row [] [] Apart anytime evenMoving shows Nought (axes Axis.Nothing)
 
 -- the words of the row, in two parts: 10 is for the first, 11 for the second; its setting is read, written, or there is none;
 -- "On a parked device home, move, stop and estop are rejected"; STATUSBUSY: "park with an axis moving"; whether it only shows;
--- the data of its reply
+-- the data of its reply; the command that it makes
 abbrev pub table : List Row
 table =
-    row (w "home" ∷ []) [] Apart unparked evenMoving changes Nought
-    ∷ row (w "stop" ∷ []) [] Apart unparked evenMoving changes Nought
-    ∷ row (w "estop" ∷ []) [] Apart unparked evenMoving changes Nought
-    ∷ row (w "move" ∷ w "abs" ∷ []) (N ∷ []) Apart unparked evenMoving changes Nought
-    ∷ row (w "move" ∷ w "rel" ∷ []) (N ∷ []) Apart unparked evenMoving changes Nought
-    ∷ row (w "move" ∷ w "vel" ∷ []) (N ∷ []) Apart unparked evenMoving changes Nought
-    ∷ row (w "move" ∷ w "min" ∷ []) [] Apart unparked evenMoving changes Nought
-    ∷ row (w "move" ∷ w "max" ∷ []) [] Apart unparked evenMoving changes Nought
-    ∷ row (w "move" ∷ w "stored" ∷ []) (N ∷ []) Apart unparked evenMoving changes Nought
-    ∷ row (w "get" ∷ SETTING ∷ []) [] Gets anytime evenMoving shows Values
-    ∷ row (w "set" ∷ WRITABLE ∷ []) (N ∷ []) Sets anytime evenMoving changes Nought
-    ∷ row (w "tools" ∷ w "storepos" ∷ []) (N ∷ []) Apart anytime evenMoving changes Stored
-    ∷ row (w "tools" ∷ w "storepos" ∷ []) (N ∷ P ∷ []) Apart anytime evenMoving changes Nought
-    ∷ row (w "tools" ∷ w "storepos" ∷ []) (N ∷ w "current" ∷ []) Apart anytime evenMoving changes Position
-    ∷ row (w "warnings" ∷ []) [] Apart anytime evenMoving shows Active
-    ∷ row (w "warnings" ∷ []) (w "clear" ∷ []) Apart anytime evenMoving changes Active
-    ∷ row (w "tools" ∷ w "parking" ∷ []) (w "state" ∷ []) Apart anytime evenMoving shows Parked
-    ∷ row (w "tools" ∷ w "parking" ∷ []) (w "park" ∷ []) Apart anytime atRest changes Nought
-    ∷ row (w "tools" ∷ w "parking" ∷ []) (w "unpark" ∷ []) Apart anytime evenMoving changes Nought
-    ∷ row (w "tools" ∷ w "echo" ∷ []) [] Apart anytime evenMoving shows Words
+    row (w "home" ∷ []) [] Apart unparked evenMoving changes Nought (axes Axis.Home)
+    ∷ row (w "stop" ∷ []) [] Apart unparked evenMoving changes Nought (axes Axis.Stop)
+    ∷ row (w "estop" ∷ []) [] Apart unparked evenMoving changes Nought (axes Axis.Estop)
+    ∷ row (w "move" ∷ w "abs" ∷ []) (N ∷ []) Apart unparked evenMoving changes Nought (numbered (λ n. Axis.MoveTo (Abs (position (n .0)))))
+    ∷ row (w "move" ∷ w "rel" ∷ []) (N ∷ []) Apart unparked evenMoving changes Nought (numbered (λ n. Axis.MoveTo (Rel (position (n .0)))))
+    ∷ row (w "move" ∷ w "vel" ∷ []) (N ∷ []) Apart unparked evenMoving changes Nought (numbered (λ n. Axis.MoveVel (speed (n .0))))
+    ∷ row (w "move" ∷ w "min" ∷ []) [] Apart unparked evenMoving changes Nought (axes (Axis.MoveTo Min))
+    ∷ row (w "move" ∷ w "max" ∷ []) [] Apart unparked evenMoving changes Nought (axes (Axis.MoveTo Max))
+    ∷ row (w "move" ∷ w "stored" ∷ []) (N ∷ []) Apart unparked evenMoving changes Nought (numbered (λ n. Axis.MoveTo (Target.Stored n)))
+    ∷ row (w "get" ∷ SETTING ∷ []) [] Gets anytime evenMoving shows Values (λ s n p. getCommand s)
+    ∷ row (w "set" ∷ WRITABLE ∷ []) (N ∷ []) Sets anytime evenMoving changes Nought (λ s n p. setCommand s n)
+    ∷ row (w "tools" ∷ w "storepos" ∷ []) (N ∷ []) Apart anytime evenMoving changes Stored (numbered Axis.Storepos)
+    ∷ row (w "tools" ∷ w "storepos" ∷ []) (N ∷ P ∷ []) Apart anytime evenMoving changes Nought (positioned Axis.StoreposAt)
+    ∷ row (w "tools" ∷ w "storepos" ∷ []) (N ∷ w "current" ∷ []) Apart anytime evenMoving changes Position (numbered Axis.StoreposCurrent)
+    ∷ row (w "warnings" ∷ []) [] Apart anytime evenMoving shows Active (axes Axis.Warnings)
+    ∷ row (w "warnings" ∷ []) (w "clear" ∷ []) Apart anytime evenMoving changes Active (axes Axis.WarningsClear)
+    ∷ row (w "tools" ∷ w "parking" ∷ []) (w "state" ∷ []) Apart anytime evenMoving shows Parked (device Device.ParkingState)
+    ∷ row (w "tools" ∷ w "parking" ∷ []) (w "park" ∷ []) Apart anytime atRest changes Nought (device Device.Park)
+    ∷ row (w "tools" ∷ w "parking" ∷ []) (w "unpark" ∷ []) Apart anytime evenMoving changes Nought (device Device.Unpark)
+    ∷ row (w "tools" ∷ w "echo" ∷ []) [] Apart anytime evenMoving shows Words (device Device.Echo)
     ∷ []
 
 abbrev pub rowAt : ℕ → Row

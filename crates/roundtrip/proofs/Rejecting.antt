@@ -28,7 +28,8 @@ use Rattle.phrase.specs.declared.SettingRead.{SettingRead}
 use Rattle.phrase.specs.declared.SettingRead.the-variants.{Is, Unknown}
 use Rattle.phrase.specs.declared.WordsRead.{WordsRead}
 use Rattle.phrase.specs.declared.WordsRead.the-variants as Words
-use Rattle.phrase.specs.Reading.{ended, getCommand, made, oneNumber, readMove, readSetting, getOf, readGet, setOf, readSet, storeAt, readStorepos, readParking, readTools, readWarnings, readCommand}
+use Rattle.command.specs.Commands.{getCommand}
+use Rattle.phrase.specs.Reading.{ended, made, oneNumber, readMove, readSetting, getOf, readGet, setOf, readSet, storeAt, readStorepos, readParking, readTools, readWarnings, readCommand}
 use Rattle.line.specs.declared.Frame.{Frame}
 use Rattle.line.specs.declared.Frame.the-variants as Frame
 use Rattle.line.specs.declared.LineRead.{LineRead}
