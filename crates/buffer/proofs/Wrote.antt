@@ -93,6 +93,16 @@ pub wrote-more : {b : List ℕ} {at : ℕ} {c : List ℕ} {r : ℕ} {d : List �
     → Wrote b at (take i t) c r → Wrote c r (getD t i 0 ∷ []) d q → Wrote b at (take (i + 1) t) d q
 wrote-more t i h v w = rw (add-one, take-suc t i 0 h) (v ▸ w)
 
+-- and of one that stores it where there is room: it begins with nothing, and each byte has its place
+pub wrote-start : (b : List ℕ) (at : ℕ) → Wrote b at [] b (at + 0)
+wrote-start b at = rw add-zero (wrote-none b at)
+
+pub wrote-next : {b : List ℕ} {at : ℕ} {c : List ℕ} (t : List ℕ) (i : ℕ) → i < length t → at + i < length c
+    → Wrote b at (take i t) c (at + i) → Wrote b at (take (i + 1) t) (set c (at + i) (getD t i 0)) (at + (i + 1))
+wrote-next {b} {at} {c} t i h k v =
+    let e : at + i + 1 ≡ at + (i + 1) = omega arith in
+    rw e at (wrote-more t i h v (wrote-byte c (at + i) (getD t i 0) k))
+
 -- where there is room, the whole text stands there
 pub wrote-room : {b : List ℕ} {at : ℕ} {t c : List ℕ} {r : ℕ} → Wrote b at t c r → at + length t ≤ length b
     → (c ≡ take at b ++ t ++ drop (at + length t) b) × (r ≡ at + length t)

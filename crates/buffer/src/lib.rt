@@ -3,12 +3,13 @@
 ghost use mathlib.Core.Path.{_≡_};
 ghost use mathlib.Core.Bool.{cond};
 ghost use mathlib.Core.List.{_∷_, [], _++_};
-ghost use Prim.Native.Nat.{_%_};
+ghost use Prim.Native.Nat.{_%_, _+_, _≤_};
+ghost use lib.ListN.{length};
 ghost use Rattle.numbers.specs.Decimal.{digits, decimal, twoDigits, hexDigit, hexPair};
 ghost use Rattle.buffer.specs.Wrote.{Wrote};
 use units::Number;
 
-// The only function that stores: all others call it.
+// One byte, if it has a place.
 pub fn put_byte(buf: &mut [u8], at: usize, b: u8) -> usize
     ensures { λ r. ⌜ Wrote (now (buf .entry)) at (b ∷ []) (now (buf .exit)) r ⌝ }
 {
@@ -20,7 +21,33 @@ pub fn put_byte(buf: &mut [u8], at: usize, b: u8) -> usize
     }
 }
 
+// Asks for room once.
 pub fn put_text(buf: &mut [u8], at: usize, text: &[u8]) -> usize
+    ensures { λ r. ⌜ Wrote (now (buf .entry)) at (now (text .entry)) (now (buf .exit)) r ⌝ }
+{
+    if at <= buf.len() {
+        if text.len() <= buf.len() - at {
+            return put_whole(buf, at, text);
+        }
+    }
+    put_part(buf, at, text)
+}
+
+// A text that has room.
+fn put_whole(buf: &mut [u8], at: usize, text: &[u8]) -> usize
+    requires { ⌜ at + length (now text) ≤ length (now buf) ⌝ }
+    ensures { λ r. ⌜ Wrote (now (buf .entry)) at (now (text .entry)) (now (buf .exit)) r ⌝ }
+{
+    let mut i: usize = 0;
+    while i < text.len() {
+        buf[at + i] = text[i];
+        i += 1;
+    }
+    at + i
+}
+
+// As much of a text as there is room for.
+fn put_part(buf: &mut [u8], at: usize, text: &[u8]) -> usize
     ensures { λ r. ⌜ Wrote (now (buf .entry)) at (now (text .entry)) (now (buf .exit)) r ⌝ }
 {
     let mut next = at;
@@ -43,15 +70,26 @@ pub fn put_either(buf: &mut [u8], at: usize, first: bool, a: &[u8], b: &[u8]) ->
     }
 }
 
-// "A number is written as its tenth, written likewise, and then its last digit".
+// One digit at once; more by recursion.
 pub fn put_number(buf: &mut [u8], at: usize, n: u64) -> usize
+    ensures { λ r. ⌜ Wrote (now (buf .entry)) at (digits n) (now (buf .exit)) r ⌝ }
+{
+    if 10 <= n {
+        put_digits(buf, at, n)
+    } else {
+        put_byte(buf, at, 48 + n as u8)
+    }
+}
+
+// "A number is written as its tenth, written likewise, and then its last digit".
+fn put_digits(buf: &mut [u8], at: usize, n: u64) -> usize
     ensures { λ r. ⌜ Wrote (now (buf .entry)) at (digits n) (now (buf .exit)) r ⌝ }
 {
     let last = (n % 10) as u8;
     if n < 10 {
         put_byte(buf, at, 48 + last)
     } else {
-        let next = put_number(buf, at, n / 10);
+        let next = put_digits(buf, at, n / 10);
         put_byte(buf, next, 48 + last)
     }
 }

@@ -56,8 +56,8 @@ behind-at s = refl
 
 -- an axis is one digit
 module _ (h : Head) (axis : h .axis < 10) where
-  pieces-length : length (text "@" ++ twoDigits (h .address) ++ gap ++ digits (h .axis) ++ gap ++ verdict (h .ok) ++ gap
-      ++ status (h .busy) ++ gap ++ highest (h .warnings) ++ gap) ≤ 17
+  pieces-length : length (text "@" ++ twoDigits (h .address) ++ gap ++ digits (h .axis)
+      ++ (gap ++ verdict (h .ok) ++ gap ++ status (h .busy) ++ gap) ++ highest (h .warnings) ++ gap) ≤ 17
   unfolding text twoDigits
   pieces-length = simp (length-append, verdict-length, status-length, highest-length) (omega (arith, digits-length 0 (h .axis) axis))
 

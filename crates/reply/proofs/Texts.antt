@@ -1,8 +1,8 @@
 -- A reply's text as its writers have it: piece behind piece.
 -- Assumes nothing.
-use mathlib.Core.Path.{_≡_, sym, _∙_}
+use mathlib.Core.Path.{_≡_, refl, sym, _∙_}
 use mathlib.Core.Logic.{⊎-elim}
-use mathlib.Core.Bool.{Bool, true, false}
+use mathlib.Core.Bool.{Bool, true, false, cond}
 use mathlib.Core.List.{List, [], _∷_, _++_, append-assoc}
 use Prim.Native.Nat.{ℕ, zero, suc, _+_, _-_, _<_, min}
 use native.Mathlib.Omega.{arith}
@@ -24,13 +24,28 @@ pub highest-is : (m : ℕ) → warningAt (first (bits 8 m)) ≡ highest m
 unfolding highest warningsIn warningAt
 highest-is m = sym (warnings-highest m (text "--"))
 
+-- verdict and status in one text
+pub state-is : (ok busy : Bool) → cond ok (cond busy (text " OK BUSY ") (text " OK IDLE "))
+    (cond busy (text " RJ BUSY ") (text " RJ IDLE "))
+    ≡ text " " ++ verdict ok ++ text " " ++ status busy ++ text " "
+unfolding verdict status text
+state-is true true = refl
+state-is true false = refl
+state-is false true = refl
+state-is false false = refl
+
 abbrev pub gap : List ℕ
 gap = space ∷ []
 
-pub head-is : (h : Head) → text "@" ++ twoDigits (h .address) ++ gap ++ digits (h .axis) ++ gap ++ verdict (h .ok) ++ gap
-    ++ status (h .busy) ++ gap ++ highest (h .warnings) ++ gap ≡ text "@" ++ body h (text "")
+pub head-is : (h : Head) → text "@" ++ twoDigits (h .address) ++ gap ++ digits (h .axis)
+    ++ (gap ++ verdict (h .ok) ++ gap ++ status (h .busy) ++ gap) ++ highest (h .warnings) ++ gap ≡ text "@" ++ body h (text "")
 unfolding body spaced text
-head-is h = simp append-assoc
+head-is h = from-the-right (text "@") (twoDigits (h .address)) gap (digits (h .axis)) (verdict (h .ok)) (status (h .busy))
+    (highest (h .warnings))
+  where
+    from-the-right : (a b g c d e f : List ℕ) → a ++ b ++ g ++ c ++ (g ++ d ++ g ++ e ++ g) ++ f ++ g
+        ≡ a ++ (b ++ (g ++ (c ++ (g ++ (d ++ (g ++ (e ++ (g ++ (f ++ g)))))))))
+    from-the-right a b g c d e f = simp append-assoc
 
 -- the data stands behind the head
 pub body-is : (h : Head) (words : List ℕ) → body h (text "") ++ words ≡ body h words

@@ -29,10 +29,6 @@ module _ {b : List ℕ} {at : ℕ} {whole : List ℕ} where
       → Writing b at whole ws d q
   writing-more {w = w} p v = writing-if true w p v
 
-  pub writing-none : {ws : List (List ℕ)} {c d : List ℕ} {r q : ℕ} → Writing b at whole ws c r → Wrote c r [] d q
-      → Writing b at whole ws d q
-  writing-none p v = writing-if false [] p v
-
   -- after the loop
   pub writing-end : {c : List ℕ} {r : ℕ} → Writing b at whole [] c r → Wrote b at whole c r
   writing-end {c} {r} p = rw (sym (p .so) ∙ trail-end (p .text)) (p .wrote)

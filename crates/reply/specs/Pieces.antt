@@ -1,10 +1,9 @@
--- What the inner writers write: a warning's name at a place, and a name or a word behind a space where there is one.
+-- What the inner writers write: a warning's name at a place, and a name behind a space where there is one.
 -- proofs/Pieces.antt joins them to the texts of Data and Reply.
 use mathlib.Core.Bool.{Bool, cond}
 use mathlib.Core.List.{List, [], _∷_}
 use Prim.Native.Nat.{ℕ}
-use lib.Dec.{eqb}
-use lib.ListN.{length, getD}
+use lib.ListN.{getD}
 use Rattle.laws.specs.Text.{space, text}
 use Rattle.flags.specs.Flags.{warningNames}
 
@@ -14,6 +13,3 @@ warningAt k = getD warningNames k (text "--")
 
 unfoldable pub nameIf : Bool → ℕ → List ℕ
 nameIf active k = cond active (space ∷ warningAt k) []
-
-unfoldable pub wordIf : List ℕ → List ℕ
-wordIf w = cond (eqb (length w) 0) [] (space ∷ w)

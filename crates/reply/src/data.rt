@@ -1,24 +1,31 @@
 // Writes a reply's data into a lent buffer: values, the list of warnings, the words of an echo, a refusal's name.
 // specs/Data.antt says each of these texts; specs/Pieces.antt those of the inner writers.
 ghost use mathlib.Core.Path.{_≡_};
+ghost use mathlib.Core.List.{_∷_};
 ghost use Prim.Native.Nat.{_+_, _≤_};
 ghost use lib.Dec.{eqb};
 ghost use lib.ListN.{length, take, drop};
+ghost use Rattle.laws.specs.Text.{space};
+ghost use Rattle.laws.proofs.Spaced.{trail};
 ghost use Rattle.words.specs.Cutting.{cut};
 ghost use Rattle.buffer.specs.Wrote.{Wrote};
 ghost use Rattle.reply.specs.Data.{warningList, echoed, refusalName};
-ghost use Rattle.reply.specs.Pieces.{warningAt, nameIf, wordIf};
+ghost use Rattle.reply.specs.Pieces.{warningAt, nameIf};
 use buffer::put_byte;
 use buffer::put_text;
 use buffer::put_two;
+use laws::BADAXIS;
 use laws::BADCOMMAND;
+use laws::BADDATA;
+use laws::DEVICEONLY;
+use laws::NOACCESS;
+use laws::PARKED;
+use laws::STATUSBUSY;
 use units::lesser;
+use words::Next;
 
 // "first 17 words": one, and these behind it.
 const MORE_WORDS: usize = 17 - 1;
-
-// The refusals that are replied have numbers from here on, one behind the other.
-const FIRST_REPLIED: usize = BADCOMMAND as usize;
 
 // The two bytes from a place on.
 fn two_from(s: &[u8], start: usize) -> &[u8]
@@ -41,18 +48,16 @@ pub fn put_warning(buf: &mut [u8], at: usize, place: u32) -> usize
 pub fn put_refusal(buf: &mut [u8], at: usize, number: u8) -> usize
     ensures { λ r. ⌜ Wrote (now (buf .entry)) at (refusalName number) (now (buf .exit)) r ⌝ }
 {
-    if number < BADCOMMAND {
-        return at;
+    match number {
+        BADCOMMAND => put_text(buf, at, b"BADCOMMAND"),
+        BADDATA => put_text(buf, at, b"BADDATA"),
+        BADAXIS => put_text(buf, at, b"BADAXIS"),
+        DEVICEONLY => put_text(buf, at, b"DEVICEONLY"),
+        NOACCESS => put_text(buf, at, b"NOACCESS"),
+        PARKED => put_text(buf, at, b"PARKED"),
+        STATUSBUSY => put_text(buf, at, b"STATUSBUSY"),
+        _ => at,
     }
-    let k = number as usize - FIRST_REPLIED;
-    put_text(
-        buf,
-        at,
-        words::nth_word(
-            b"BADCOMMAND BADDATA BADAXIS DEVICEONLY NOACCESS PARKED STATUSBUSY",
-            k,
-        ),
-    )
 }
 
 // The number of warnings that a mask has, and their names.
@@ -82,33 +87,45 @@ fn put_if(buf: &mut [u8], at: usize, bit: u32, place: u32) -> usize
     }
 }
 
-// A word behind a space, if there is one.
+// A word behind a space.
 fn put_word(buf: &mut [u8], at: usize, w: &[u8]) -> usize
-    ensures { λ r. ⌜ Wrote (now (buf .entry)) at (wordIf (now (w .entry))) (now (buf .exit)) r ⌝ }
+    ensures { λ r. ⌜ Wrote (now (buf .entry)) at (space ∷ now (w .entry)) (now (buf .exit)) r ⌝ }
 {
-    if w.len() == 0 {
-        at
-    } else {
-        let next = put_byte(buf, at, b' ');
-        put_text(buf, next, w)
+    let next = put_byte(buf, at, b' ');
+    put_text(buf, next, w)
+}
+
+// The next words of an echo, from a place of s on, each behind a space.
+fn put_more(buf: &mut [u8], at: usize, s: &[u8], from: usize) -> usize
+    ensures { λ r. ⌜ Wrote (now (buf .entry)) at (trail (take 16 (cut (drop from (now (s .entry)))))) (now (buf .exit)) r ⌝ }
+{
+    let mut next = at;
+    let mut place = from;
+    let mut left: usize = MORE_WORDS;
+    while 0 < left {
+        match words::next_word(s, place) {
+            Next::End => {
+                return next;
+            }
+            Next::Word { start, end } => {
+                next = put_word(buf, next, &s[start..end]);
+                place = end;
+                left -= 1;
+            }
+        }
     }
+    next
 }
 
 // The first 17 words from a place of s on.
 pub fn put_echo(buf: &mut [u8], at: usize, s: &[u8], from: usize) -> usize
     ensures { λ r. ⌜ Wrote (now (buf .entry)) at (echoed (cut (drop from (now (s .entry))))) (now (buf .exit)) r ⌝ }
 {
-    let first = words::first_word(s, from);
-    if first.len() == 0 {
-        return put_byte(buf, at, b'0');
+    match words::next_word(s, from) {
+        Next::End => put_byte(buf, at, b'0'),
+        Next::Word { start, end } => {
+            let next = put_text(buf, at, &s[start..end]);
+            put_more(buf, next, s, end)
+        }
     }
-    let mut next = put_text(buf, at, first);
-    let mut place = words::past_word(s, from);
-    let mut left: usize = MORE_WORDS;
-    while (0 < left) & (place < s.len()) {
-        next = put_word(buf, next, words::first_word(s, place));
-        place = words::past_word(s, place);
-        left -= 1;
-    }
-    next
 }

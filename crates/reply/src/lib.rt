@@ -6,7 +6,7 @@ ghost use lib.ListN.{take, drop};
 ghost use Rattle.laws.specs.Text.{text};
 ghost use Rattle.numbers.specs.Checksum.{checksum, sumText};
 ghost use Rattle.buffer.specs.Wrote.{Wrote};
-ghost use Rattle.reply.specs.Reply.{body, ending};
+ghost use Rattle.reply.specs.Reply.{verdict, status, body, ending};
 use crate::data::put_warning;
 use buffer::put_byte;
 use buffer::put_either;
@@ -36,13 +36,20 @@ pub fn put_head(buf: &mut [u8], at: usize, h: Head) -> usize
     let b = put_two(buf, a, h.address);
     let c = put_byte(buf, b, b' ');
     let d = put_number(buf, c, h.axis);
-    let e = put_byte(buf, d, b' ');
-    let f = put_either(buf, e, h.ok, b"OK", b"RJ");
-    let g = put_byte(buf, f, b' ');
-    let i = put_either(buf, g, h.busy, b"BUSY", b"IDLE");
-    let j = put_byte(buf, i, b' ');
-    let k = put_warning(buf, j, flags::highest(h.warnings));
-    put_byte(buf, k, b' ')
+    let e = put_state(buf, d, h.ok, h.busy);
+    let f = put_warning(buf, e, flags::highest(h.warnings));
+    put_byte(buf, f, b' ')
+}
+
+// OK or RJ, and IDLE or BUSY, with the spaces around them.
+fn put_state(buf: &mut [u8], at: usize, ok: bool, busy: bool) -> usize
+    ensures { λ r. ⌜ Wrote (now (buf .entry)) at (text " " ++ verdict ok ++ text " " ++ status busy ++ text " ") (now (buf .exit)) r ⌝ }
+{
+    if ok {
+        put_either(buf, at, busy, b" OK BUSY ", b" OK IDLE ")
+    } else {
+        put_either(buf, at, busy, b" RJ BUSY ", b" RJ IDLE ")
+    }
 }
 
 // The checksum of what stands in the buffer behind its first byte and before the place.

@@ -1,0 +1,74 @@
+-- `reply::data::put_more` meets its contract. Invariant: what is written, with the words that are left, is the whole.
+-- Assumes nothing.
+use native.Mathlib.Omega.{arith}
+use lib.ListN.{take, drop}
+use Rattle.laws.proofs.Spaced.{trail}
+use Rattle.words.specs.Cutting.{cut}
+use Rattle.words.proofs.Cut.{Part, found-word, found-end}
+use Rattle.buffer.proofs.Wrote.{wrote-length}
+use Rattle.reply.proofs.Writing.{Writing, writing-first, writing-end}
+use Rattle.reply.proofs.Lists.{echo-turn, echo-end, echo-full}
+use borrow.Author.Needs.{needs}
+use Rattle.reply.proofs.data.put_more.Statement.{statement}
+use Rattle.reply.proofs.data.put_more.Tie as tie
+
+abbrev Inv-loop : tie.InvT-loop
+Inv-loop buf₀ at s from next₀ place₀ left₀ buf next place left =
+    Writing buf₀ at (trail (take 16 (cut (drop from s)))) (take left (cut (drop place s))) buf next
+
+abbrev μ-loop : tie.MeasureT-loop
+μ-loop buf₀ at s from next₀ place₀ left₀ buf next place left = left
+
+-- what is known once a word is found: where it is, and what the words from `place` on are
+abbrev Found : tie.After-known-told Inv-loop μ-loop → Type 0
+Found c =
+    let loop = c .before .before .before .before .before in
+    Part (loop .before .before .before .args .s .now) (loop .loop .place) (c .before .start .given .0 .0) (c .before .start .given .0 .1 .0)
+
+the-word : (c : tie.After-known-told Inv-loop μ-loop) → Found c
+the-word c = found-word _ _ (c .before .before .before .next-word .ensures) _ _ (search)
+
+loop-holds : tie.Need-loop-holds Inv-loop μ-loop
+loop-holds c = writing-first _ _ _
+
+same-length : tie.Need-same-length Inv-loop μ-loop
+same-length c = wrote-length (c .before .before .before .before .loop .inv .wrote)
+
+returns : tie.Need-returns Inv-loop μ-loop
+returns c =
+    let next-word = c .before .before in
+    let loop = next-word .before .before in
+    let none = found-end _ (loop .loop .place) (next-word .next-word .ensures) (search) in
+    writing-end (rw (echo-end (loop .loop .left) _ none) at (loop .loop .inv))
+
+sub-put-word : tie.Need-sub-put-word Inv-loop μ-loop
+sub-put-word c = omega (arith, the-word (c .before))
+
+part-put-word-start : tie.Need-part-put-word-start Inv-loop μ-loop
+part-put-word-start c = omega (arith, the-word (c .before))
+
+part-put-word-end : tie.Need-part-put-word-end Inv-loop μ-loop
+part-put-word-end c = omega (arith, the-word (c .before))
+
+loop-again : tie.Need-loop-again Inv-loop μ-loop
+loop-again c =
+    let written = c .before .before in
+    let word = written .before .before .before in
+    let turn = word .before .before .before .before in
+    echo-turn (turn .before .loop .left) (turn .loop-test .taken) (the-word word .words) (turn .before .loop .inv)
+    (written .put-word .ensures)
+
+same-length-2 : tie.Need-same-length-2 Inv-loop μ-loop
+same-length-2 c = wrote-length (c .before .loop .inv .wrote)
+
+returns-2 : tie.Need-returns-2 Inv-loop μ-loop
+returns-2 c =
+    let loop = c .before in
+    let words = cut (drop (loop .loop .place) (loop .before .before .before .args .s .now)) in
+    writing-end (rw (echo-full (loop .loop .left) words (c .loop-test .left)) at (loop .loop .inv))
+
+pub put-more-spec : {M : Type 1} → statement M
+put-more-spec =
+    tie.close
+    (tie.spec Inv-loop μ-loop loop-holds (λ c κs. search needs) (λ c. search needs) same-length returns (λ c. search needs) sub-put-word
+    part-put-word-start part-put-word-end (λ c κs. search needs) (λ c. search needs) (λ c. search needs) loop-again same-length-2 returns-2)
