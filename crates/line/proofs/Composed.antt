@@ -101,7 +101,7 @@ pair-printable (pair {h} {l} x y) =
     pass-cons printable h (l ∷ []) (digit-printable (omega arith) x)
     (pass-cons printable l [] (digit-printable (omega arith) y) (span-none printable))
 
-sum-printable : {s k : List ℕ} → Checksum s k → Passes printable k
+pub sum-printable : {s k : List ℕ} → Checksum s k → Passes printable k
 unfolding text
 sum-printable Checksum.none = span-none printable
 sum-printable (Checksum.sum {d} r) = pass-cons printable 58 d (between 58 (omega arith) (omega arith)) (pair-printable r)
@@ -182,7 +182,7 @@ parts-read (parts {s} {k} {f} r c g h) =
     front s k f = rw append-assoc (take-append-seam s (k ++ f))
 
 -- a body that is read has its content up to its first colon
-body-of : (x : List ℕ) (n : ℕ) → parted x ≡ Frame.Content n → Checksum (take n x) (drop n x)
+pub body-of : (x : List ℕ) (n : ℕ) → parted x ≡ Frame.Content n → Checksum (take n x) (drop n x)
 unfolding parted
 body-of x n e = rw (parted-fits x n e) (sum-of (span noColon x) n (take (span noColon x) x) (drop (span noColon x) x) (stop-byte x) e)
 

@@ -27,7 +27,7 @@ before-end : (x : ℕ) (b f : List ℕ) → printable x ≡ true → Passes prin
 before-end x [] f h k = h
 before-end x (y ∷ b) f h k = let r = pass-head printable y b (printable y) refl k in before-end y b f (r .0) (r .1)
 
-no-end : (c : ℕ) → printable c ≡ true → isEnd c ≡ false
+pub no-end : (c : ℕ) → printable c ≡ true → isEnd c ≡ false
 no-end c h = go (isEnd c) refl
   where
     go : (b : Bool) → isEnd c ≡ b → isEnd c ≡ false
@@ -48,7 +48,7 @@ module _ (t : List ℕ) where
   unfolding body
   body-size k n e h = let q : length (47 ∷ t) - 1 - k ≡ n = omega arith in rw (e, q)
 
-slash-printable : printable 47 ≡ true
+pub slash-printable : printable 47 ≡ true
 slash-printable = between 47 (omega arith) (omega arith)
 
 foot-size : {f : List ℕ} (b : List ℕ) → Passes printable b → Footer f → footerSize (47 ∷ (b ++ f)) ≡ length f

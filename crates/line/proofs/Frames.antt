@@ -113,16 +113,9 @@ module _ (t : List ℕ) (e : ℕ) (at : e ≡ span printable t) where
   unfolding afterSlash
   tail-not h = rw (← at, h)
 
-  -- the same, of the part that the code hands over
-  module _ {b : Bool} (told : b ≡ isFooter (take (length t - e) (drop e t))) where
-    pub footer-told : isFooter (drop e t) ≡ b
-    footer-told = rw (rest e t) at (sym told)
-
-    pub footer-yes : {r : Frame} → b ≡ true → r ≡ parted (take e t) → r ≡ afterSlash t
-    footer-yes h q = q ∙ sym (tail-yes (footer-told ∙ h))
-
-    pub footer-no : b ≡ false → Refused 1 ≡ afterSlash t
-    footer-no h = sym (tail-not (footer-told ∙ h))
+  -- whether a footer stands there, as it is told of the part that the code hands over
+  pub footer-told : {b : Bool} → b ≡ isFooter (take (length t - e) (drop e t)) → isFooter (drop e t) ≡ b
+  footer-told told = rw (rest e t) at (sym told)
 
   pub tail-fits : e ≤ length t
   tail-fits = rw at (span-le printable t)

@@ -5,5 +5,6 @@ pub mod Demand3
 pub mod Cases
 pub mod Ends
 pub mod Sums
+pub mod FromTheEnd
 pub mod Refused
 pub mod Every

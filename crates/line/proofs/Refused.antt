@@ -1,19 +1,18 @@
 -- A line is refused with the first of 2, 1, 3, 4, 10 and 11 that applies, each as specs/Refusals.antt says it: for every line.
 -- Assumes nothing.
-use mathlib.Core.Path.{_≡_, refl, sym, ap, _∙_}
+use mathlib.Core.Path.{_≡_, refl, ap, _∙_}
 use mathlib.Core.Logic.{⊎-elim}
 use mathlib.Core.Bool.{Bool, true, false}
 use mathlib.Core.List.{List, [], _∷_, _++_}
-use Prim.Native.Nat.{ℕ, _+_, _-_, _≤_, _<_}
+use Prim.Native.Nat.{ℕ, _≤_, _<_}
 use lib.Dec.{ltb}
-use lib.ListN.{length, getD, take, drop, take-append-drop}
-use lib.Seq.{take-append-seam, drop-append-seam, take-append-le}
+use lib.ListN.{length, getD, take, drop}
+use lib.Seq.{take-append-le}
 use borrow.Author.Tests.{lt-ltb, le-ltb, ne-eqb}
-use Rattle.laws.specs.Lists.{span}
 use Rattle.laws.specs.Refusals.{_when_, firstOf}
 use Rattle.laws.proofs.Order.{lt-or-le, eq-or-ne}
 use Rattle.laws.proofs.Bools.{clash}
-use Rattle.laws.proofs.Passes.{Passes, pass-append, front-passes}
+use Rattle.laws.proofs.Passes.{Passes}
 use Rattle.numbers.specs.Reading.{readAddress}
 use Rattle.numbers.specs.declared.UnsignedRead.{UnsignedRead}
 use Rattle.numbers.specs.declared.UnsignedRead.the-variants as Unsigned
@@ -24,17 +23,18 @@ use Rattle.phrase.specs.declared.WordsRead.{WordsRead}
 use Rattle.phrase.specs.declared.WordsRead.the-variants as Read
 use Rattle.phrase.proofs.Refused.{words-refused}
 use Rattle.line.specs.Spelling.{Footer}
-use Rattle.line.specs.Reading.{printable, isFooter, parted, afterSlash, frameOf, startsNumber, axisDigit, axisOf, addressOf, readWords, readLine, numberOf}
+use Rattle.line.specs.Reading.{printable, frameOf, startsNumber, axisDigit, axisOf, addressOf, readWords, readLine, numberOf}
 use Rattle.line.specs.Refusals.{body, tooLong, notLine, badSum, content, badAddress, own, refusalOf}
 use Rattle.line.specs.declared.Frame.{Frame}
 use Rattle.line.specs.declared.Frame.the-variants as Frame
 use Rattle.line.specs.declared.LineRead.{LineRead}
 use Rattle.line.specs.declared.LineRead.the-variants.{Addressed}
-use Rattle.line.proofs.Frames.{tail-yes, tail-not, too-long, no-slash, slash-first}
+use Rattle.line.proofs.Frames.{too-long, no-slash, slash-first}
 use Rattle.line.proofs.Steps.{starts-none}
-use Rattle.line.proofs.Composed.{footer-yes, footer-stops, footer-of, slash-cons}
+use Rattle.line.proofs.Composed.{slash-cons}
 use Rattle.line.proofs.Ends.{body-is, is-line, Split, split}
 use Rattle.line.proofs.Sums.{Sums, bad, good, sums}
+use Rattle.line.proofs.FromTheEnd.{frame-is, footer-missing}
 
 -- ---- the words
 addressed-number : (n k skip : ℕ) (r : WordsRead) → numberOf (Addressed n k skip r) ≡ wordsNumber r
@@ -94,28 +94,14 @@ module _ (l : List ℕ) (fits : length l ≤ 80) where
 
 -- a line with its slash, whose body is b
 module _ (b f : List ℕ) (k : Passes printable b) (g : Footer f) (fits : length (47 ∷ (b ++ f)) ≤ 80) where
-  frame-is : frameOf (47 ∷ (b ++ f)) ≡ parted b
-  frame-is =
-      let e : length b ≡ span printable (b ++ f) = sym (pass-append printable b f k (footer-stops g)) in
-      slash-first (47 ∷ (b ++ f)) fits refl ∙ tail-yes (b ++ f) (length b) e (ap isFooter (drop-append-seam b f) ∙ footer-yes g)
-      ∙ ap parted (take-append-seam b f)
-
   body-refused : Sums b → numberOf (readLine (47 ∷ (b ++ f))) ≡ refusalOf (47 ∷ (b ++ f))
-  body-refused (bad h q) = sum-refused (47 ∷ (b ++ f)) fits (frame-is ∙ q) (is-line b f k g) (rw (body-is b f k g) h)
+  body-refused (bad h q) = sum-refused (47 ∷ (b ++ f)) fits (frame-is b f k g fits ∙ q) (is-line b f k g) (rw (body-is b f k g) h)
   body-refused (good n h q m c) =
-      words-answered (47 ∷ (b ++ f)) fits n (frame-is ∙ q) (is-line b f k g) (rw (body-is b f k g) h)
+      words-answered (47 ∷ (b ++ f)) fits n (frame-is b f k g fits ∙ q) (is-line b f k g) (rw (body-is b f k g) h)
       (take-append-le n b f m ∙ rw (body-is b f k g) c)
 
 split-refused : (t : List ℕ) → Split t → length (47 ∷ t) ≤ 80 → numberOf (readLine (47 ∷ t)) ≡ refusalOf (47 ∷ t)
 split-refused t s h = rw (← s .whole) (body-refused (s .front) (s .back) (s .passes) (s .footer) (rw (s .whole) h) (sums (s .front)))
-
--- where 1 refuses, no footer stands behind the printable bytes
-footer-missing : (t : List ℕ) (b : Bool) → notLine (47 ∷ t) ≡ true → isFooter (drop (span printable t) t) ≡ b
-    → afterSlash t ≡ Frame.Refused 1
-footer-missing t false e h = tail-not t (span printable t) refl h
-footer-missing t true e h =
-    let n = span printable t in
-    clash e (rw (take-append-drop n t) at (is-line (take n t) (drop n t) (front-passes printable t) (footer-of (drop n t) h)))
 
 slash-refused : (t : List ℕ) (b : Bool) → notLine (47 ∷ t) ≡ b → length (47 ∷ t) ≤ 80 → numberOf (readLine (47 ∷ t)) ≡ refusalOf (47 ∷ t)
 slash-refused t false e h = split-refused t (split t e) h

@@ -28,7 +28,7 @@ pub data Sums (b : List ℕ) : Type 0 where
   bad : badSum b ≡ true → parted b ≡ Frame.Refused 3 → Sums b
   good : (n : ℕ) → badSum b ≡ false → parted b ≡ Frame.Content n → n ≤ length b → take n b ≡ content b → Sums b
 
-colon-here : (b : List ℕ) → span noColon b < length b → getD b (span noColon b) 0 ≡ 58
+pub colon-here : (b : List ℕ) → span noColon b < length b → getD b (span noColon b) 0 ≡ 58
 colon-here b h =
     let n = span noColon b in
     let k : 0 < length (drop n b) = omega (arith, length-drop n b) in

@@ -1,8 +1,12 @@
 // Reads the frame of a line: `/`, content, checksum and footer; or the refusal 2, 1 or 3.
-// The rules are in specs/Reading.antt.
+// The rules are in specs/Reading.antt; proofs/FromTheEnd.antt shows that what is found from the end is the same.
 ghost use mathlib.Core.Path.{_≡_};
-ghost use Rattle.laws.specs.Lists.{span};
-ghost use Rattle.line.specs.Reading.{printable, noColon, isEnd, isFooter, parted, afterSlash, frameOf};
+ghost use lib.ListN.{getD};
+ghost use Rattle.laws.specs.Lists.{span, all};
+ghost use Rattle.laws.specs.Text.{slash};
+ghost use Rattle.line.specs.Reading.{printable, isEnd, isFooter, frameOf};
+ghost use Rattle.line.specs.Refusals.{footerSize};
+ghost use Rattle.line.specs.FromTheEnd.{plain, contentLength, refusedBody, bodyRead};
 use crate::Frame;
 use crate::LONGEST_LINE;
 use laws::BADSUM;
@@ -26,18 +30,17 @@ pub fn printable_len(s: &[u8]) -> usize
     i
 }
 
-// The place of the first colon, or the end.
-fn colon_at(s: &[u8]) -> usize
-    ensures { λ r. ⌜ r ≡ span noColon (now (s .entry)) ⌝ }
+// Are all bytes such as a content may have: no forbidden one, and no colon?
+fn all_plain(s: &[u8]) -> bool
+    ensures { λ r. ⌜ r ≡ all plain (now (s .entry)) ⌝ }
 {
+    let mut ok = true;
     let mut i: usize = 0;
     while i < s.len() {
-        if s[i] == b':' {
-            return i;
-        }
+        ok = ok & ((32 <= s[i]) & (s[i] <= 126) & (s[i] != b':'));
         i += 1;
     }
-    i
+    ok
 }
 
 // Is the byte CR or LF?
@@ -66,32 +69,57 @@ pub fn is_footer(f: &[u8]) -> bool
     false
 }
 
-// The bytes between `/` and footer.
-fn read_body(b: &[u8]) -> Frame
-    ensures { λ r. ⌜ r ≡ parted (now (b .entry)) ⌝ }
+// How many bytes the footer has, at the end of a line that begins with `/`; none where the last byte is neither CR nor LF.
+fn footer_size(s: &[u8]) -> usize
+    requires { ⌜ getD (now s) 0 0 ≡ slash ⌝ }
+    ensures { λ r. ⌜ r ≡ footerSize (now (s .entry)) ⌝ }
 {
-    let c = colon_at(b);
-    if b.len() <= c {
-        return Frame::Content(c);
+    if is_end(s[s.len() - 1]) {
+        if is_end(s[s.len() - 2]) {
+            return 2;
+        }
+        return 1;
     }
-    if b.len() - c != 3 {
-        return Frame::Refused(BADSUM);
+    0
+}
+
+// How many bytes stand before the checksum, if a colon stands third from the end; else all.
+fn content_len(b: &[u8]) -> usize
+    ensures { λ r. ⌜ r ≡ contentLength (now (b .entry)) ⌝ }
+{
+    if 3 <= b.len() {
+        if b[b.len() - 3] == b':' {
+            return b.len() - 3;
+        }
     }
-    if numbers::reading::says_sum(&b[..c], numbers::reading::read_pair(b[c + 1], b[c + 2])) {
-        return Frame::Content(c);
+    b.len()
+}
+
+// The refusal of bytes with a colon out of place or a wrong checksum: a forbidden byte among them is told first.
+fn refusal(s: &[u8]) -> Frame
+    ensures { λ r. ⌜ r ≡ refusedBody (now (s .entry)) ⌝ }
+{
+    if printable_len(s) < s.len() {
+        return Frame::Refused(NOTLINE);
     }
     Frame::Refused(BADSUM)
 }
 
-// The bytes behind the `/`.
-fn read_tail(t: &[u8]) -> Frame
-    ensures { λ r. ⌜ r ≡ afterSlash (now (t .entry)) ⌝ }
+// The bytes between `/` and footer.
+fn read_body(b: &[u8]) -> Frame
+    ensures { λ r. ⌜ r ≡ bodyRead (now (b .entry)) ⌝ }
 {
-    let e = printable_len(t);
-    if is_footer(&t[e..]) {
-        return read_body(&t[..e]);
+    let c = content_len(b);
+    if all_plain(&b[..c]) {
+        if b.len() <= c {
+            return Frame::Content(c);
+        }
+        if numbers::reading::says_sum(&b[..c], numbers::reading::read_pair(b[c + 1], b[c + 2])) {
+            return Frame::Content(c);
+        }
+        return refusal(&b[c..]);
     }
-    Frame::Refused(NOTLINE)
+    refusal(b)
 }
 
 // The frame of a line.
@@ -107,5 +135,9 @@ pub fn read_frame(s: &[u8]) -> Frame
     if s[0] != b'/' {
         return Frame::Refused(NOTLINE);
     }
-    read_tail(&s[1..])
+    let f = footer_size(s);
+    if f == 0 {
+        return Frame::Refused(NOTLINE);
+    }
+    read_body(&s[1..s.len() - f])
 }

@@ -12,6 +12,7 @@ use laws::BADADDRESS;
 use numbers::UnsignedRead;
 use numbers::digits::NO_DIGIT;
 use numbers::digits::digit_value;
+use words::Next;
 
 // Does the word begin with a digit or a sign?
 fn starts_number(w: &[u8]) -> bool
@@ -43,10 +44,14 @@ fn axis_digit(w: &[u8]) -> u64
 fn read_axis(s: &[u8], at: usize, n: u64) -> LineRead
     ensures { λ r. ⌜ r ≡ axisOf n (cut (drop at (now (s .entry)))) ⌝ }
 {
-    let d = axis_digit(words::first_word(s, at));
-    if d < 10 {
-        let next = words::past_word(s, at);
-        return LineRead::Addressed(n, d, 2, phrase::reading::read_command(s, next));
+    match words::next_word(s, at) {
+        Next::End => {}
+        Next::Word { start, end } => {
+            let d = axis_digit(&s[start..end]);
+            if d < 10 {
+                return LineRead::Addressed(n, d, 2, phrase::reading::read_command(s, end));
+            }
+        }
     }
     LineRead::Addressed(n, 0, 1, phrase::reading::read_command(s, at))
 }
@@ -65,9 +70,14 @@ fn read_addressed(s: &[u8], at: usize, a: UnsignedRead) -> LineRead
 pub fn read_words(s: &[u8]) -> LineRead
     ensures { λ r. ⌜ r ≡ readWords (cut (now (s .entry))) ⌝ }
 {
-    let w = words::first_word(s, 0);
-    if starts_number(w) {
-        return read_addressed(s, words::past_word(s, 0), numbers::reading::read_address(w));
+    match words::next_word(s, 0) {
+        Next::End => {}
+        Next::Word { start, end } => {
+            let w = &s[start..end];
+            if starts_number(w) {
+                return read_addressed(s, end, numbers::reading::read_address(w));
+            }
+        }
     }
     LineRead::Addressed(0, 0, 0, phrase::reading::read_command(s, 0))
 }
