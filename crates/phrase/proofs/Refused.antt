@@ -20,13 +20,13 @@ use Rattle.command.specs.declared.DeviceCommand.the-variants.{ParkingState, Par
 use Rattle.command.specs.declared.Command.{Command}
 use Rattle.command.specs.declared.Command.the-variants.{OfAxes, OfDevice}
 use Rattle.command.specs.declared.Target.the-variants.{Min, Max}
-use Rattle.command.specs.Commands.{N}
+use Rattle.command.specs.Commands.{N, getCommand}
 use Rattle.phrase.specs.declared.Numbered.{Numbered}
 use Rattle.phrase.specs.declared.Numbered.the-variants as With
 use Rattle.phrase.specs.declared.SettingRead.{SettingRead}
 use Rattle.phrase.specs.declared.SettingRead.the-variants.{Is, Unknown}
 use Rattle.phrase.specs.declared.WordsRead.the-variants.{Refused}
-use Rattle.phrase.specs.Reading.{ended, getCommand, made, oneNumber, moves, readMove, readSetting, readGet, readSet, readStorepos, parkings, readParking, tools, readTools, readWarnings, firsts, readCommand}
+use Rattle.phrase.specs.Reading.{ended, made, oneNumber, moves, readMove, readSetting, readGet, readSet, readStorepos, parkings, readParking, tools, readTools, readWarnings, firsts, readCommand}
 use Rattle.phrase.specs.declared.WordsRead.{WordsRead}
 use Rattle.phrase.specs.Refusals.{beginSo, justSo, isNumber, badCommand, badData, wordsNumber, wordsRefusal}
 use Rattle.phrase.proofs.Among.{_also_, among}

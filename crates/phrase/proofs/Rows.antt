@@ -20,7 +20,7 @@ use Rattle.words.specs.Cutting.{headWord, tailWords}
 use Rattle.words.specs.Find.{Entry, meaningOf}
 use Rattle.words.proofs.Table.{by-entry}
 use Rattle.command.specs.Settings.{axisSettings, deviceSettings, nameOf, readOnly}
-use Rattle.command.specs.Commands.{echoOf}
+use Rattle.command.specs.Commands.{echoOf, getCommand, setCommand}
 use Rattle.command.specs.declared.AxisSetting.the-variants as AxisSetting
 use Rattle.command.specs.declared.DeviceSetting.the-variants as DeviceSetting
 use Rattle.command.specs.declared.Setting.{Setting}
@@ -36,7 +36,7 @@ use Rattle.phrase.specs.declared.WordsRead.{WordsRead}
 use Rattle.phrase.specs.declared.WordsRead.the-variants.{Refused}
 use Rattle.phrase.specs.declared.WordsRead.the-variants as Words
 use Rattle.phrase.specs.Spelling.{Row}
-use Rattle.phrase.specs.Reading.{ended, numbered, made, oneNumber, moves, readMove, settings, named, names, readSetting, getCommand, setCommand, getOf, readGet, setOf, readSet, storeAt, readStorepos, parkings, readParking, tools, readTools, readWarnings, firsts, readCommand}
+use Rattle.phrase.specs.Reading.{ended, numbered, made, oneNumber, moves, readMove, settings, named, names, readSetting, getOf, readGet, setOf, readSet, storeAt, readStorepos, parkings, readParking, tools, readTools, readWarnings, firsts, readCommand}
 use Rattle.phrase.proofs.Among.{_also_}
 
 -- ---- what is spelled is read

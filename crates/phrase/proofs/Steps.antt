@@ -2,7 +2,7 @@
 -- Assumes nothing.
 use mathlib.Core.Path.{_≡_, refl, sym, ap, _∙_}
 use mathlib.Core.Bool.{Bool, true, false, cond}
-use mathlib.Core.List.{List, [], _∷_, map}
+use mathlib.Core.List.{List, [], _∷_}
 use Prim.Native.Nat.{ℕ}
 use native.Mathlib.Omega.{arith}
 use lib.ListN.{length}
@@ -10,9 +10,8 @@ use Rattle.laws.specs.Text.{text, same}
 use Rattle.numbers.specs.Reading.{readNumber}
 use Rattle.numbers.specs.declared.NumberRead.{NumberRead}
 use Rattle.words.specs.Cutting.{headWord, tailWords, cut}
-use Rattle.words.specs.Find.{Entry, meaningOf, entryAt, index}
+use Rattle.words.specs.Find.{Entry, meaningOf}
 use Rattle.words.proofs.Cut.{word-none, word-some}
-use Rattle.words.proofs.Table.{meaning-at}
 use Rattle.command.specs.declared.AxisCommand.the-variants.{Nothing, Warnings, WarningsClear}
 use Rattle.command.specs.declared.Command.{Command}
 use Rattle.command.specs.declared.Command.the-variants.{OfAxes}
@@ -25,9 +24,9 @@ use Rattle.phrase.specs.Reading.{ended, made, oneNumber, storeAt, readSt
 
 -- a first word that is looked up in a table, and the words t behind it
 module _ (es : List (List ℕ) → List (Entry WordsRead)) (d : WordsRead) (ws : List (List ℕ)) where
-  pub looked-up : {r : WordsRead} (v : List ℕ) (t : List (List ℕ)) (k : ℕ) → v ≡ headWord ws → t ≡ tailWords ws
-      → k ≡ index v (map (λ e. e .word) (es t)) → r ≡ entryAt d k (es t) → r ≡ meaningOf d (headWord ws) (es (tailWords ws))
-  looked-up v t k p q e z = rw (← p, ← q) (z ∙ meaning-at d v (es t) k e)
+  pub looked-up : {r : WordsRead} (v : List ℕ) (t : List (List ℕ)) → v ≡ headWord ws → t ≡ tailWords ws
+      → r ≡ meaningOf d v (es t) → r ≡ meaningOf d (headWord ws) (es (tailWords ws))
+  looked-up v t p q z = rw (← p, ← q) z
 
 module _ (l v : List ℕ) (first : v ≡ headWord (cut l)) where
   -- no word is left, or some word is
@@ -59,10 +58,10 @@ module _ (l v : List ℕ) (first : v ≡ headWord (cut l)) where
   unfolding readCommand
   command-none h = rw (word-none l v first h)
 
-  pub command-first : (length v ≡ 0 → ⊥) → {r : WordsRead} (t : List (List ℕ)) (k : ℕ) → t ≡ tailWords (cut l)
-      → k ≡ index v (map (λ e. e .word) (firsts t)) → r ≡ entryAt (Refused 10) k (firsts t) → r ≡ readCommand (cut l)
+  pub command-first : (length v ≡ 0 → ⊥) → {r : WordsRead} (t : List (List ℕ)) → t ≡ tailWords (cut l)
+      → r ≡ meaningOf (Refused 10) v (firsts t) → r ≡ readCommand (cut l)
   unfolding readCommand
-  command-first h t k q e z = rw (word-some l v t first q h) (z ∙ meaning-at (Refused 10) v (firsts t) k e)
+  command-first h t q z = rw (word-some l v t first q h) z
 
 -- ---- words behind the first
 no-tail : (ws : List (List ℕ)) (w : List ℕ) (k : Numbered) → w ≡ headWord ws → tailWords ws ≡ [] → made k (readNumber w) ≡ oneNumber k ws

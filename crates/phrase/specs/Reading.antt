@@ -20,6 +20,7 @@ use Rattle.command.specs.declared.DeviceCommand.the-variants.{ParkingState, Par
 use Rattle.command.specs.declared.DeviceCommand.the-variants as Device
 use Rattle.command.specs.declared.Command.{Command}
 use Rattle.command.specs.declared.Command.the-variants.{OfAxes, OfDevice}
+use Rattle.command.specs.Commands.{getCommand, setCommand}
 use Rattle.command.specs.Settings.{axisSettings, deviceSettings, nameOf, readOnly}
 use Rattle.phrase.specs.declared.SettingRead.{SettingRead}
 use Rattle.phrase.specs.declared.SettingRead.the-variants.{Is, Unknown}
@@ -33,15 +34,6 @@ use Rattle.phrase.specs.declared.WordsRead.the-variants as Words
 unfoldable pub ended : Command → List (List ℕ) → WordsRead
 ended c [] = Words.Command c
 ended c (w ∷ ws) = Refused BADDATA
-
--- the scope of `get` and `set` is the "setting's"
-abbrev pub getCommand : Setting → Command
-getCommand (Setting.OfAxis s) = OfAxes (Get s)
-getCommand (Setting.OfDevice s) = OfDevice (Device.Get s)
-
-abbrev pub setCommand : Setting → Number → Command
-setCommand (Setting.OfAxis s) n = OfAxes (Set s n)
-setCommand (Setting.OfDevice s) n = OfDevice (Device.Set s n)
 
 -- the command of a row that waits for its number
 abbrev pub numbered : Numbered → Number → Command
@@ -84,6 +76,12 @@ settings = map (λ s. Setting.OfAxis s) axisSettings ++ map (λ s. Setting.OfDev
 
 abbrev pub named : Setting → Entry SettingRead
 named s = nameOf s means Is s
+
+abbrev pub axisNames : List (Entry SettingRead)
+axisNames = map named (map (λ s. Setting.OfAxis s) axisSettings)
+
+abbrev pub deviceNames : List (Entry SettingRead)
+deviceNames = map named (map (λ s. Setting.OfDevice s) deviceSettings)
 
 abbrev pub names : List (Entry SettingRead)
 names = map named settings

@@ -2,7 +2,8 @@
 // operand.rt, verbs.rt, toolwords.rt and reading.rt.
 // The spelling is in specs/Spelling.antt, and proofs/Rows.antt shows that just that is read.
 ghost use mathlib.Core.Path.{_≡_};
-ghost use Rattle.phrase.specs.Reading.{setCommand, numbered as numberedBy, made};
+ghost use Rattle.command.specs.Commands.{setCommand};
+ghost use Rattle.phrase.specs.Reading.{numbered as numberedBy, made};
 use command::AxisCommand;
 use command::Command;
 use command::DeviceCommand;

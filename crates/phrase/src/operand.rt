@@ -3,9 +3,9 @@
 ghost use mathlib.Core.Path.{_≡_};
 ghost use lib.ListN.{drop};
 ghost use Rattle.words.specs.Cutting.{cut};
-ghost use Rattle.words.specs.Find.{entryAt};
+ghost use Rattle.words.specs.Find.{meaningOf};
 ghost use Rattle.phrase.specs.declared.SettingRead.the-variants.{Unknown};
-ghost use Rattle.phrase.specs.Reading.{ended, oneNumber, names, readSetting};
+ghost use Rattle.phrase.specs.Reading.{ended, oneNumber, deviceNames, readSetting};
 use crate::Numbered;
 use crate::SettingRead;
 use crate::WordsRead;
@@ -14,6 +14,7 @@ use command::Command;
 use command::DeviceSetting;
 use command::Setting;
 use laws::BADDATA;
+use words::same_bytes;
 
 // The command c, where no word is left.
 pub fn ended_at(s: &[u8], at: usize, c: Command) -> WordsRead
@@ -40,37 +41,64 @@ pub fn one_number(s: &[u8], at: usize, k: Numbered) -> WordsRead
     WordsRead::Refused(BADDATA)
 }
 
-// The setting at place k of the names.
-fn setting_at(k: usize) -> SettingRead
-    ensures { λ r. ⌜ r ≡ entryAt Unknown k names ⌝ }
+// The setting of the device that a word names.
+fn read_device_setting(w: &[u8]) -> SettingRead
+    ensures { λ r. ⌜ r ≡ meaningOf Unknown (now (w .entry)) deviceNames ⌝ }
 {
-    match k {
-        0 => SettingRead::Is(Setting::OfAxis(AxisSetting::Pos)),
-        1 => SettingRead::Is(Setting::OfAxis(AxisSetting::LimitMin)),
-        2 => SettingRead::Is(Setting::OfAxis(AxisSetting::LimitMax)),
-        3 => SettingRead::Is(Setting::OfAxis(AxisSetting::MaxSpeed)),
-        4 => SettingRead::Is(Setting::OfAxis(AxisSetting::Accel)),
-        5 => SettingRead::Is(Setting::OfAxis(AxisSetting::DriverCurrentMax)),
-        6 => SettingRead::Is(Setting::OfAxis(AxisSetting::DriverCurrentRun)),
-        7 => SettingRead::Is(Setting::OfAxis(AxisSetting::DriverCurrentHold)),
-        8 => SettingRead::Is(Setting::OfAxis(AxisSetting::DriverDir)),
-        9 => SettingRead::Is(Setting::OfAxis(AxisSetting::EncoderIndexCount)),
-        10 => SettingRead::Is(Setting::OfDevice(DeviceSetting::CommAddress)),
-        11 => SettingRead::Is(Setting::OfDevice(DeviceSetting::CommAlert)),
-        12 => SettingRead::Is(Setting::OfDevice(DeviceSetting::CommChecksum)),
-        13 => SettingRead::Is(Setting::OfDevice(DeviceSetting::SystemAccess)),
-        14 => SettingRead::Is(Setting::OfDevice(DeviceSetting::DeviceId)),
-        15 => SettingRead::Is(Setting::OfDevice(DeviceSetting::SystemAxisCount)),
-        _ => SettingRead::Unknown,
+    if same_bytes(w, b"comm.address") {
+        return SettingRead::Is(Setting::OfDevice(DeviceSetting::CommAddress));
     }
+    if same_bytes(w, b"comm.alert") {
+        return SettingRead::Is(Setting::OfDevice(DeviceSetting::CommAlert));
+    }
+    if same_bytes(w, b"comm.checksum") {
+        return SettingRead::Is(Setting::OfDevice(DeviceSetting::CommChecksum));
+    }
+    if same_bytes(w, b"system.access") {
+        return SettingRead::Is(Setting::OfDevice(DeviceSetting::SystemAccess));
+    }
+    if same_bytes(w, b"deviceid") {
+        return SettingRead::Is(Setting::OfDevice(DeviceSetting::DeviceId));
+    }
+    if same_bytes(w, b"system.axiscount") {
+        return SettingRead::Is(Setting::OfDevice(DeviceSetting::SystemAxisCount));
+    }
+    SettingRead::Unknown
 }
 
 // The setting that a word names.
 pub fn read_setting(w: &[u8]) -> SettingRead
     ensures { λ r. ⌜ r ≡ readSetting (now (w .entry)) ⌝ }
 {
-    setting_at(words::find_word(
-        w,
-        b"pos limit.min limit.max maxspeed accel driver.current.max driver.current.run driver.current.hold driver.dir encoder.index.count comm.address comm.alert comm.checksum system.access deviceid system.axiscount",
-    ))
+    if same_bytes(w, b"pos") {
+        return SettingRead::Is(Setting::OfAxis(AxisSetting::Pos));
+    }
+    if same_bytes(w, b"limit.min") {
+        return SettingRead::Is(Setting::OfAxis(AxisSetting::LimitMin));
+    }
+    if same_bytes(w, b"limit.max") {
+        return SettingRead::Is(Setting::OfAxis(AxisSetting::LimitMax));
+    }
+    if same_bytes(w, b"maxspeed") {
+        return SettingRead::Is(Setting::OfAxis(AxisSetting::MaxSpeed));
+    }
+    if same_bytes(w, b"accel") {
+        return SettingRead::Is(Setting::OfAxis(AxisSetting::Accel));
+    }
+    if same_bytes(w, b"driver.current.max") {
+        return SettingRead::Is(Setting::OfAxis(AxisSetting::DriverCurrentMax));
+    }
+    if same_bytes(w, b"driver.current.run") {
+        return SettingRead::Is(Setting::OfAxis(AxisSetting::DriverCurrentRun));
+    }
+    if same_bytes(w, b"driver.current.hold") {
+        return SettingRead::Is(Setting::OfAxis(AxisSetting::DriverCurrentHold));
+    }
+    if same_bytes(w, b"driver.dir") {
+        return SettingRead::Is(Setting::OfAxis(AxisSetting::DriverDir));
+    }
+    if same_bytes(w, b"encoder.index.count") {
+        return SettingRead::Is(Setting::OfAxis(AxisSetting::EncoderIndexCount));
+    }
+    read_device_setting(w)
 }

@@ -3,7 +3,7 @@
 ghost use mathlib.Core.Path.{_≡_};
 ghost use lib.ListN.{drop};
 ghost use Rattle.words.specs.Cutting.{cut};
-ghost use Rattle.words.specs.Find.{entryAt};
+ghost use Rattle.words.specs.Find.{meaningOf};
 ghost use Rattle.phrase.specs.declared.WordsRead.the-variants.{Refused};
 ghost use Rattle.phrase.specs.Reading.{readWarnings, firsts, readCommand};
 ghost use Rattle.phrase.specs.Refusals.{wordsNumber, wordsRefusal};
@@ -13,6 +13,7 @@ use command::AxisCommand;
 use command::Command;
 use laws::BADCOMMAND;
 use laws::BADDATA;
+use words::same_bytes;
 
 // The words behind `warnings`.
 fn read_warnings(s: &[u8], at: usize) -> WordsRead
@@ -22,7 +23,7 @@ fn read_warnings(s: &[u8], at: usize) -> WordsRead
     if w.len() == 0 {
         return WordsRead::Command(Command::OfAxes(AxisCommand::Warnings));
     }
-    if words::same_bytes(w, b"clear") {
+    if same_bytes(w, b"clear") {
         return ended_at(
             s,
             words::past_word(s, at),
@@ -32,21 +33,35 @@ fn read_warnings(s: &[u8], at: usize) -> WordsRead
     WordsRead::Refused(BADDATA)
 }
 
-// Behind the first word at place k of the table.
-fn first_at(k: usize, s: &[u8], at: usize) -> WordsRead
-    ensures { λ r. ⌜ r ≡ entryAt (Refused 10) k (firsts (cut (drop at (now (s .entry))))) ⌝ }
+// Behind the first word w.
+fn first_of(s: &[u8], at: usize, w: &[u8]) -> WordsRead
+    ensures { λ r. ⌜ r ≡ meaningOf (Refused 10) (now (w .entry)) (firsts (cut (drop at (now (s .entry))))) ⌝ }
 {
-    match k {
-        0 => ended_at(s, at, Command::OfAxes(AxisCommand::Home)),
-        1 => ended_at(s, at, Command::OfAxes(AxisCommand::Stop)),
-        2 => ended_at(s, at, Command::OfAxes(AxisCommand::Estop)),
-        3 => crate::verbs::read_move(s, at),
-        4 => crate::verbs::read_get(s, at),
-        5 => crate::verbs::read_set(s, at),
-        6 => crate::toolwords::read_tools(s, at),
-        7 => read_warnings(s, at),
-        _ => WordsRead::Refused(BADCOMMAND),
+    if same_bytes(w, b"home") {
+        return ended_at(s, at, Command::OfAxes(AxisCommand::Home));
     }
+    if same_bytes(w, b"stop") {
+        return ended_at(s, at, Command::OfAxes(AxisCommand::Stop));
+    }
+    if same_bytes(w, b"estop") {
+        return ended_at(s, at, Command::OfAxes(AxisCommand::Estop));
+    }
+    if same_bytes(w, b"move") {
+        return crate::verbs::read_move(s, at);
+    }
+    if same_bytes(w, b"get") {
+        return crate::verbs::read_get(s, at);
+    }
+    if same_bytes(w, b"set") {
+        return crate::verbs::read_set(s, at);
+    }
+    if same_bytes(w, b"tools") {
+        return crate::toolwords::read_tools(s, at);
+    }
+    if same_bytes(w, b"warnings") {
+        return read_warnings(s, at);
+    }
+    WordsRead::Refused(BADCOMMAND)
 }
 
 // The words of a command, from a place on.
@@ -58,6 +73,5 @@ pub fn read_command(s: &[u8], at: usize) -> WordsRead
     if w.len() == 0 {
         return WordsRead::Command(Command::OfAxes(AxisCommand::Nothing));
     }
-    let k = words::find_word(w, b"home stop estop move get set tools warnings");
-    first_at(k, s, words::past_word(s, at))
+    first_of(s, words::past_word(s, at), w)
 }

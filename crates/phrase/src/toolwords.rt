@@ -3,7 +3,7 @@
 ghost use mathlib.Core.Path.{_≡_};
 ghost use lib.ListN.{drop};
 ghost use Rattle.words.specs.Cutting.{cut};
-ghost use Rattle.words.specs.Find.{entryAt};
+ghost use Rattle.words.specs.Find.{meaningOf};
 ghost use Rattle.phrase.specs.declared.WordsRead.the-variants.{Refused};
 ghost use Rattle.phrase.specs.Reading.{storeAt, readStorepos, parkings, readParking, tools, readTools};
 use crate::Numbered;
@@ -14,6 +14,7 @@ use command::DeviceCommand;
 use laws::BADCOMMAND;
 use laws::BADDATA;
 use numbers::NumberRead;
+use words::same_bytes;
 
 // `tools storepos` with its number n and a position.
 fn store_at(n: NumberRead, v: &[u8]) -> WordsRead
@@ -40,48 +41,56 @@ fn read_storepos(s: &[u8], at: usize) -> WordsRead
     if u.len() != 0 {
         return WordsRead::Refused(BADDATA);
     }
-    if words::same_bytes(v, b"current") {
+    if same_bytes(v, b"current") {
         return Numbered::StoreCurrent.made(n);
     }
     store_at(n, v)
 }
 
-// Behind `tools parking` and the word at place k of those that may follow it.
-fn parking_at(k: usize, s: &[u8], at: usize) -> WordsRead
-    ensures { λ r. ⌜ r ≡ entryAt (Refused 11) k (parkings (cut (drop at (now (s .entry))))) ⌝ }
+// Behind `tools parking` and the word w.
+fn parking_of(s: &[u8], at: usize, w: &[u8]) -> WordsRead
+    ensures { λ r. ⌜ r ≡ meaningOf (Refused 11) (now (w .entry)) (parkings (cut (drop at (now (s .entry))))) ⌝ }
 {
-    match k {
-        0 => ended_at(s, at, Command::OfDevice(DeviceCommand::ParkingState)),
-        1 => ended_at(s, at, Command::OfDevice(DeviceCommand::Park)),
-        2 => ended_at(s, at, Command::OfDevice(DeviceCommand::Unpark)),
-        _ => WordsRead::Refused(BADDATA),
+    if same_bytes(w, b"state") {
+        return ended_at(s, at, Command::OfDevice(DeviceCommand::ParkingState));
     }
+    if same_bytes(w, b"park") {
+        return ended_at(s, at, Command::OfDevice(DeviceCommand::Park));
+    }
+    if same_bytes(w, b"unpark") {
+        return ended_at(s, at, Command::OfDevice(DeviceCommand::Unpark));
+    }
+    WordsRead::Refused(BADDATA)
 }
 
 // The words behind `tools parking`.
 fn read_parking(s: &[u8], at: usize) -> WordsRead
     ensures { λ r. ⌜ r ≡ readParking (cut (drop at (now (s .entry)))) ⌝ }
 {
-    let k = words::find_word(words::first_word(s, at), b"state park unpark");
-    parking_at(k, s, words::past_word(s, at))
+    let w = words::first_word(s, at);
+    parking_of(s, words::past_word(s, at), w)
 }
 
-// Behind `tools` and the word at place k of those that may follow it.
-fn tool_at(k: usize, s: &[u8], at: usize) -> WordsRead
-    ensures { λ r. ⌜ r ≡ entryAt (Refused 10) k (tools (cut (drop at (now (s .entry))))) ⌝ }
+// Behind `tools` and the word w.
+fn tool_of(s: &[u8], at: usize, w: &[u8]) -> WordsRead
+    ensures { λ r. ⌜ r ≡ meaningOf (Refused 10) (now (w .entry)) (tools (cut (drop at (now (s .entry))))) ⌝ }
 {
-    match k {
-        0 => read_storepos(s, at),
-        1 => read_parking(s, at),
-        2 => WordsRead::Command(Command::OfDevice(DeviceCommand::Echo)),
-        _ => WordsRead::Refused(BADCOMMAND),
+    if same_bytes(w, b"storepos") {
+        return read_storepos(s, at);
     }
+    if same_bytes(w, b"parking") {
+        return read_parking(s, at);
+    }
+    if same_bytes(w, b"echo") {
+        return WordsRead::Command(Command::OfDevice(DeviceCommand::Echo));
+    }
+    WordsRead::Refused(BADCOMMAND)
 }
 
 // The words behind `tools`.
 pub fn read_tools(s: &[u8], at: usize) -> WordsRead
     ensures { λ r. ⌜ r ≡ readTools (cut (drop at (now (s .entry)))) ⌝ }
 {
-    let k = words::find_word(words::first_word(s, at), b"storepos parking echo");
-    tool_at(k, s, words::past_word(s, at))
+    let w = words::first_word(s, at);
+    tool_of(s, words::past_word(s, at), w)
 }

@@ -3,9 +3,10 @@
 ghost use mathlib.Core.Path.{_≡_};
 ghost use lib.ListN.{drop};
 ghost use Rattle.words.specs.Cutting.{cut};
-ghost use Rattle.words.specs.Find.{entryAt};
+ghost use Rattle.words.specs.Find.{meaningOf};
 ghost use Rattle.phrase.specs.declared.WordsRead.the-variants.{Refused};
-ghost use Rattle.phrase.specs.Reading.{moves, readMove, getCommand, getOf, readGet, setOf, readSet};
+ghost use Rattle.command.specs.Commands.{getCommand};
+ghost use Rattle.phrase.specs.Reading.{moves, readMove, getOf, readGet, setOf, readSet};
 use crate::Numbered;
 use crate::SettingRead;
 use crate::WordsRead;
@@ -18,28 +19,39 @@ use command::DeviceCommand;
 use command::Setting;
 use command::Target;
 use laws::BADCOMMAND;
+use words::same_bytes;
 
-// Behind `move` and the word at place k of those that may follow it.
-fn move_at(k: usize, s: &[u8], at: usize) -> WordsRead
-    ensures { λ r. ⌜ r ≡ entryAt (Refused 10) k (moves (cut (drop at (now (s .entry))))) ⌝ }
+// Behind `move` and the word w.
+fn move_of(s: &[u8], at: usize, w: &[u8]) -> WordsRead
+    ensures { λ r. ⌜ r ≡ meaningOf (Refused 10) (now (w .entry)) (moves (cut (drop at (now (s .entry))))) ⌝ }
 {
-    match k {
-        0 => one_number(s, at, Numbered::MoveAbs),
-        1 => one_number(s, at, Numbered::MoveRel),
-        2 => one_number(s, at, Numbered::MoveVel),
-        3 => ended_at(s, at, Command::OfAxes(AxisCommand::MoveTo(Target::Min))),
-        4 => ended_at(s, at, Command::OfAxes(AxisCommand::MoveTo(Target::Max))),
-        5 => one_number(s, at, Numbered::MoveStored),
-        _ => WordsRead::Refused(BADCOMMAND),
+    if same_bytes(w, b"abs") {
+        return one_number(s, at, Numbered::MoveAbs);
     }
+    if same_bytes(w, b"rel") {
+        return one_number(s, at, Numbered::MoveRel);
+    }
+    if same_bytes(w, b"vel") {
+        return one_number(s, at, Numbered::MoveVel);
+    }
+    if same_bytes(w, b"min") {
+        return ended_at(s, at, Command::OfAxes(AxisCommand::MoveTo(Target::Min)));
+    }
+    if same_bytes(w, b"max") {
+        return ended_at(s, at, Command::OfAxes(AxisCommand::MoveTo(Target::Max)));
+    }
+    if same_bytes(w, b"stored") {
+        return one_number(s, at, Numbered::MoveStored);
+    }
+    WordsRead::Refused(BADCOMMAND)
 }
 
 // The words behind `move`.
 pub fn read_move(s: &[u8], at: usize) -> WordsRead
     ensures { λ r. ⌜ r ≡ readMove (cut (drop at (now (s .entry)))) ⌝ }
 {
-    let k = words::find_word(words::first_word(s, at), b"abs rel vel min max stored");
-    move_at(k, s, words::past_word(s, at))
+    let w = words::first_word(s, at);
+    move_of(s, words::past_word(s, at), w)
 }
 
 // `get` of a setting, of the setting's scope.

@@ -1,7 +1,5 @@
 -- The word behind `tools parking` is looked up in its table.
 -- Assumes nothing.
-use Rattle.laws.specs.Text.{text}
-use Rattle.words.specs.Cutting.{cut, isSpace, noSpace, grow}
 use Rattle.phrase.specs.Reading.{parkings, readParking}
 use Rattle.phrase.specs.declared.WordsRead.the-variants.{Refused}
 use Rattle.phrase.proofs.Steps.{looked-up}
@@ -10,12 +8,12 @@ use Rattle.phrase.proofs.toolwords.read_parking.Statement.{statement}
 use Rattle.phrase.proofs.toolwords.read_parking.Tie as tie
 
 returns : tie.Need-returns
-unfolding readParking cut isSpace noSpace grow text
+unfolding readParking
 returns c =
-    looked-up parkings (Refused 11) _ _ _ _ (c .before .before .before .before .first-word .ensures) (c .before .past-word .ensures .1)
-    (c .before .before .find-word .ensures) (c .parking-at .ensures)
+    let past-word = c .before in
+    let first-word = past-word .before in
+    looked-up parkings (Refused 11) _ _ _ (first-word .first-word .ensures) (past-word .past-word .ensures .1) (c .parking-of .ensures)
 
 pub read-parking-spec : {M : Type 1} → statement M
-read-parking-spec =
-    tie.close
-    (tie.spec (λ c κs. search needs) (λ c. search needs) (λ c κs. search needs) (λ c κs. search needs) (λ c κs. search needs) returns)
+read-parking-spec = tie.close
+    (tie.spec (λ c κs. search needs) (λ c κs. search needs) (λ c κs. search needs) returns)
