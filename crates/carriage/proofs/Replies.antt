@@ -11,23 +11,19 @@ use lib.Signed.{leZ}
 use lib.ListN.{length, take, drop}
 use borrow.Author.Tests.{le-leb, lt-leb, leb-true}
 use Rattle.laws.specs.Lists.{fold, all}
-use Rattle.units.specs.declared.Number.{Number}
 use Rattle.laws.specs.Text.{text}
 use Rattle.laws.proofs.Order.{lt-or-le}
 use Rattle.laws.proofs.Bools.{and-left, and-right}
 use Rattle.command.specs.declared.DeviceSetting.the-variants.{CommAddress, CommAlert, CommChecksum, SystemAccess, DeviceId, SystemAxisCount}
 use Rattle.command.specs.declared.Command.{Command}
 use Rattle.command.specs.declared.Command.the-variants as Command
-use Rattle.command.specs.declared.DeviceCommand.{DeviceCommand}
-use Rattle.command.specs.declared.DeviceCommand.the-variants as DeviceCommand
-use Rattle.command.specs.declared.DeviceSetting.{DeviceSetting}
-use Rattle.command.specs.declared.DeviceSetting.the-variants as DeviceSetting
 use Rattle.command.specs.Settings.{deviceSettings}
 use Rattle.buffer.specs.Wrote.{Wrote}
 use Rattle.device.specs.declared.Device.{Device}
-use Rattle.device.specs.Record.{put, onAxes}
+use Rattle.device.specs.Record.{onAxes}
 use Rattle.device.specs.Good.{inRange, good}
-use Rattle.rules.specs.Effects.{deviceAfter, next}
+use Rattle.rules.specs.Effects.{next}
+use Rattle.rules.proofs.BeyondCount.{after-keeps}
 use Rattle.reply.specs.declared.Head.{Head}
 use Rattle.reply.specs.Reply.{body, ending, reply}
 use Rattle.reply.proofs.Room.{reply-done}
@@ -79,26 +75,10 @@ module _ (n : ℕ) (d : Device) (k : ℕ) (ok : Bool) (words : List ℕ) {b f : 
   reply-gives w e = record { result = e ∙ ap (λ (x : ℕ). record { number = n; length = x; next = d }) (w .place); left = w .left }
 
 -- a command never changes the axis count
-put-count : (s : DeviceSetting) (n : Number) (d : Device) → put s n d .count ≡ d .count
-put-count DeviceSetting.CommAddress n d = refl
-put-count DeviceSetting.CommAlert n d = refl
-put-count DeviceSetting.CommChecksum n d = refl
-put-count DeviceSetting.SystemAccess n d = refl
-put-count DeviceSetting.DeviceId n d = refl
-put-count DeviceSetting.SystemAxisCount n d = refl
-
-device-count : (c : DeviceCommand) (d : Device) → deviceAfter c d .count ≡ d .count
-device-count (DeviceCommand.Get s) d = refl
-device-count (DeviceCommand.Set s n) d = put-count s n d
-device-count DeviceCommand.ParkingState d = refl
-device-count DeviceCommand.Park d = refl
-device-count DeviceCommand.Unpark d = refl
-device-count DeviceCommand.Echo d = refl
-
 pub next-count : (d : Device) (k : ℕ) (c : Command) → next d k c .count ≡ d .count
 unfolding next onAxes
 next-count d k (Command.OfAxes c) = refl
-next-count d k (Command.OfDevice c) = device-count c d
+next-count d k (Command.OfDevice c) = after-keeps c d .1
 
 pub next-few : {e : Device} (d : Device) (k : ℕ) (c : Command) → good d ≡ true → e ≡ next d k c → e .count ≤ 4
 next-few d k c g q = rw (q, next-count d k c) (good-count d g)

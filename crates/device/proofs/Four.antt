@@ -6,7 +6,7 @@ use mathlib.Core.List.{List, [], _∷_}
 use Prim.Native.Nat.{ℕ, zero, suc, _+_, _≤_}
 use native.Mathlib.Omega.{arith}
 use lib.ListN.{length, getD, take, drop}
-use Rattle.laws.specs.Lists.{fold, any}
+use Rattle.laws.specs.Lists.{fold, any, changeFirst, changeFrom}
 use Rattle.laws.proofs.Bools.{or-false}
 use Rattle.flags.specs.Flags.{bits, mask, either, union}
 use Rattle.flags.proofs.Unions.{bits-union, union-start}
@@ -101,3 +101,43 @@ module _ {X : Type 0} (f : X → List Bool) (eight : (x : X) → bits 8 (mask (f
       let hc = joined (covers p 2) (getD xs 2 z) _ _ ec hd in
       let hb = joined (covers p 1) (getD xs 1 z) _ _ eb hc in
       rw (ea, hb, stretch-kept xs z four p inside, union-keep (covers p 0) (getD xs 0 z))
+
+module _ {X : Type 0} (g : X → X) where
+  abbrev turned : Stretch → ℕ → X → X
+  turned p i x = cond (covers p i) (g x) x
+
+  turned-four : (a b c d : X) (i n : ℕ) → i + n ≤ 4 → let p : Stretch = record { from = i; many = n } in
+      turned p 0 a ∷ turned p 1 b ∷ turned p 2 c ∷ turned p 3 d ∷ [] ≡ changeFrom g i n (a ∷ b ∷ c ∷ d ∷ [])
+  unfolding covers changeFrom changeFirst
+  turned-four a b c d zero zero h = refl
+  turned-four a b c d zero (suc zero) h = refl
+  turned-four a b c d zero (suc (suc zero)) h = refl
+  turned-four a b c d zero (suc (suc (suc zero))) h = refl
+  turned-four a b c d zero (suc (suc (suc (suc zero)))) h = refl
+  turned-four a b c d zero (suc (suc (suc (suc (suc n))))) h = absurd (omega arith)
+  turned-four a b c d (suc zero) zero h = refl
+  turned-four a b c d (suc zero) (suc zero) h = refl
+  turned-four a b c d (suc zero) (suc (suc zero)) h = refl
+  turned-four a b c d (suc zero) (suc (suc (suc zero))) h = refl
+  turned-four a b c d (suc zero) (suc (suc (suc (suc n)))) h = absurd (omega arith)
+  turned-four a b c d (suc (suc zero)) zero h = refl
+  turned-four a b c d (suc (suc zero)) (suc zero) h = refl
+  turned-four a b c d (suc (suc zero)) (suc (suc zero)) h = refl
+  turned-four a b c d (suc (suc zero)) (suc (suc (suc n))) h = absurd (omega arith)
+  turned-four a b c d (suc (suc (suc zero))) zero h = refl
+  turned-four a b c d (suc (suc (suc zero))) (suc zero) h = refl
+  turned-four a b c d (suc (suc (suc zero))) (suc (suc n)) h = absurd (omega arith)
+  turned-four a b c d (suc (suc (suc (suc zero)))) zero h = refl
+  turned-four a b c d (suc (suc (suc (suc zero)))) (suc n) h = absurd (omega arith)
+  turned-four a b c d (suc (suc (suc (suc (suc i))))) n h = absurd (omega arith)
+
+  -- the four places, each changed where the stretch covers it
+  pub change-stretch : (xs : List X) (z : X) → length xs ≡ 4 → (p : Stretch) → p .from + p .many ≤ 4 → {a b c d : X}
+      → a ≡ turned p 0 (getD xs 0 z) → b ≡ turned p 1 (getD xs 1 z) → c ≡ turned p 2 (getD xs 2 z) → d ≡ turned p 3 (getD xs 3 z)
+      → a ∷ b ∷ c ∷ d ∷ [] ≡ changeFrom g (p .from) (p .many) xs
+  change-stretch [] z e p h ea eb ec ed = absurd (omega arith)
+  change-stretch (x ∷ []) z e p h ea eb ec ed = absurd (omega arith)
+  change-stretch (x ∷ y ∷ []) z e p h ea eb ec ed = absurd (omega arith)
+  change-stretch (x ∷ y ∷ v ∷ []) z e p h ea eb ec ed = absurd (omega arith)
+  change-stretch (x ∷ y ∷ v ∷ w ∷ []) z e p h ea eb ec ed = rw (ea, eb, ec, ed) (turned-four x y v w (p .from) (p .many) h)
+  change-stretch (x ∷ y ∷ v ∷ w ∷ u ∷ xs) z e p h ea eb ec ed = absurd (omega arith)

@@ -67,22 +67,6 @@ fn all_pass(axes: [Axis; 4], t: Test, from: usize, many: usize) -> bool
     ok
 }
 
-fn change_all(axes: [Axis; 4], g: Change, from: usize, many: usize) -> [Axis; 4]
-    requires { ⌜ from + many ≤ 4 ⌝ }
-    ensures { λ r. ⌜ (length axes ≡ 4) × (r ≡ changeFrom (changedBy g) from many axes) ⌝ }
-{
-    let mut next = axes;
-    let mut n: usize = 0;
-    while n < many {
-        let i = from + n;
-        let a = axes[i];
-        let b = changed(a, g);
-        next[i] = b;
-        n = n + 1;
-    }
-    next
-}
-
 fn before(k: u64) -> u64
     ensures { λ r. ⌜ r ≡ k - 1 ⌝ }
 {
@@ -176,10 +160,22 @@ pub fn join_flags(axes: [Axis; 4], k: u64, n: u64) -> u32
     join_at(p, 0, axes[0], b)
 }
 
-// These axes changed, and all other places as they are.
+// The axis changed, where the stretch covers it.
+fn changed_at(p: Stretch, i: usize, a: Axis, g: Change) -> Axis
+    requires { ⌜ p .from + p .many ≤ 4 ⌝ }
+    ensures { λ r. ⌜ r ≡ cond (coversAt p i) (changedBy g a) a ⌝ }
+{
+    if covers(p, i) { changed(a, g) } else { a }
+}
+
+// These axes changed, and all other places as they are. Each place is named, so that the record is not copied for an index.
 pub fn change_each(axes: [Axis; 4], k: u64, n: u64, g: Change) -> [Axis; 4]
     ensures { λ r. ⌜ r ≡ changeFrom (changedBy g) (k - 1) n axes ⌝ }
 {
     let p = stretch_of(k, n);
-    change_all(axes, g, p.from, p.many)
+    let a = changed_at(p, 0, axes[0], g);
+    let b = changed_at(p, 1, axes[1], g);
+    let c = changed_at(p, 2, axes[2], g);
+    let d = changed_at(p, 3, axes[3], g);
+    [a, b, c, d]
 }

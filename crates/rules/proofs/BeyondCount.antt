@@ -44,24 +44,24 @@ pub beyond-axes : (g : Axis → Axis) (d : Device) (k i : ℕ) → k ≤ d .coun
 unfolding onAxes
 beyond-axes g d k i h l = change-beyond g freshAxis (k - 1) (many d k) i (d .axes) (omega (arith, below d k h))
 
--- a command of the device touches no axis
-after-axes : (c : DeviceCommand) (d : Device) → deviceAfter c d .axes ≡ d .axes
-after-axes (Get s) d = refl
-after-axes (Set CommAddress n) d = refl
-after-axes (Set CommAlert n) d = refl
-after-axes (Set CommChecksum n) d = refl
-after-axes (Set SystemAccess n) d = refl
-after-axes (Set DeviceId n) d = refl
-after-axes (Set SystemAxisCount n) d = refl
-after-axes ParkingState d = refl
-after-axes Park d = refl
-after-axes Unpark d = refl
-after-axes Echo d = refl
+-- a command of the device touches no axis, and leaves their count
+pub after-keeps : (c : DeviceCommand) (d : Device) → (deviceAfter c d .axes ≡ d .axes) × (deviceAfter c d .count ≡ d .count)
+after-keeps (Get s) d = (refl, refl)
+after-keeps (Set CommAddress n) d = (refl, refl)
+after-keeps (Set CommAlert n) d = (refl, refl)
+after-keeps (Set CommChecksum n) d = (refl, refl)
+after-keeps (Set SystemAccess n) d = (refl, refl)
+after-keeps (Set DeviceId n) d = (refl, refl)
+after-keeps (Set SystemAxisCount n) d = (refl, refl)
+after-keeps ParkingState d = (refl, refl)
+after-keeps Park d = (refl, refl)
+after-keeps Unpark d = (refl, refl)
+after-keeps Echo d = (refl, refl)
 
 beyond-next : (d : Device) (k : ℕ) (c : Command) (i : ℕ) → badAxis d k ≡ false → d .count ≤ i → at (next d k c) i ≡ at d i
 unfolding next badAxis
 beyond-next d k (OfAxes c) i b l = beyond-axes (axisAfter c) d k i (ltb-false (d .count) k b) l
-beyond-next d k (OfDevice c) i b l = ap (λ (x : List Axis). getD x i freshAxis) (after-axes c d)
+beyond-next d k (OfDevice c) i b l = ap (λ (x : List Axis). getD x i freshAxis) (after-keeps c d .0)
 
 pub beyond-count : (d : Device) (k : ℕ) (c : Command) (i : ℕ) → d .count ≤ i → at (obey d k c .next) i ≡ at d i
 unfolding obey
@@ -85,7 +85,7 @@ report-beyond d axis r i l =
 length-next : (d : Device) (k : ℕ) (c : Command) → length (next d k c .axes) ≡ length (d .axes)
 unfolding next onAxes
 length-next d k (OfAxes c) = length-change (axisAfter c) (k - 1) (many d k) (d .axes)
-length-next d k (OfDevice c) = ap length (after-axes c d)
+length-next d k (OfDevice c) = ap length (after-keeps c d .0)
 
 pub places-stay : (d : Device) (k : ℕ) (c : Command) → length (obey d k c .next .axes) ≡ length (d .axes)
 places-stay d k c =

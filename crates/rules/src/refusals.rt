@@ -80,14 +80,10 @@ fn device_takes(c: DeviceCommand) -> bool
     }
 }
 
-// 11 BADDATA: value, target, reference or range, on some axis or on the device. What only shows has none of these.
-fn bad_data(d: Device, k: u64, c: Command, x: Demands) -> bool
-    requires { ⌜ x ≡ demands c ⌝ }
+// 11 BADDATA: value, target, reference or range, on some axis or on the device.
+fn bad_data(d: Device, k: u64, c: Command) -> bool
     ensures { λ r. ⌜ r ≡ badData d k c ⌝ }
 {
-    if x.shows {
-        return false;
-    }
     match c {
         Command::OfAxes(a) => !d.each(k, Test::Permits(a)),
         Command::OfDevice(a) => !device_takes(a),
@@ -117,7 +113,11 @@ fn refusal(d: Device, k: u64, c: Command, x: Demands) -> u8
     if status_busy(d, k, x) {
         return STATUSBUSY;
     }
-    if bad_data(d, k, c, x) {
+    // what only shows has no value, target, reference or range
+    if x.shows {
+        return ACCEPTED;
+    }
+    if bad_data(d, k, c) {
         return BADDATA;
     }
     ACCEPTED
