@@ -28,7 +28,7 @@ pub choose : {X : Type 0} (p : X → Bool) (b : Bool) (x y : X) → (b ≡ true 
 choose p true x y h k = h refl
 choose p false x y h k = k refl
 
--- the parts of goodness
+-- the questions of goodness
 module _ (a : Axis) where
   abbrev settingsGood : Bool
   settingsGood = all (inRange (a .settings)) axisSettings

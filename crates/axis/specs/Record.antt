@@ -1,4 +1,4 @@
--- The record of one axis: made anew from its parts, with one part changed, its motion, and the fresh one.
+-- The record of one axis: made anew from its fields, with one of them changed, its motion, and the fresh one.
 -- Nothing here says what is right or wrong.
 use mathlib.Core.Bool.{Bool, true, false, cond}
 use mathlib.Core.List.{List}
@@ -13,11 +13,11 @@ use Rattle.axis.specs.declared.Motion.{Motion}
 use Rattle.axis.specs.declared.Motion.the-variants.{Idle, Homing, To, At, Stopping}
 use Rattle.axis.specs.declared.Axis.{Axis}
 
--- the records, made anew from their parts
+-- the records, made anew from their fields
 abbrev pub axis : Settings → Motion → Bool → ℕ → List Position → Axis
 axis s m r w p = record { settings = s; motion = m; reference = r; warnings = w; stored = p }
 
--- the records with one part changed
+-- the records with one field changed
 abbrev pub withSettings : Settings → Axis → Axis
 withSettings s a = axis s (a .motion) (a .reference) (a .warnings) (a .stored)
 

@@ -30,7 +30,7 @@ pub fn put_text(buf: &mut [u8], at: usize, text: &[u8]) -> usize
             return put_whole(buf, at, text);
         }
     }
-    put_part(buf, at, text)
+    put_front(buf, at, text)
 }
 
 // A text that has room.
@@ -47,7 +47,7 @@ fn put_whole(buf: &mut [u8], at: usize, text: &[u8]) -> usize
 }
 
 // As much of a text as there is room for.
-fn put_part(buf: &mut [u8], at: usize, text: &[u8]) -> usize
+fn put_front(buf: &mut [u8], at: usize, text: &[u8]) -> usize
     ensures { λ r. ⌜ Wrote (now (buf .entry)) at (now (text .entry)) (now (buf .exit)) r ⌝ }
 {
     let mut next = at;

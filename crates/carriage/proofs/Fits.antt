@@ -51,7 +51,7 @@ use Rattle.device.specs.Record as Record
 use Rattle.device.specs.Good as Good
 use Rattle.rules.specs.Refusals.{badAxis, refusal}
 use Rattle.rules.proofs.Accepted.{within-count}
-use Rattle.rules.proofs.GoodStays.{Good, parts}
+use Rattle.rules.proofs.GoodStays.{Good, goodness}
 use Rattle.reply.specs.Data.{values, echoed}
 use Rattle.reply.proofs.Lengths.{Short, values-length, list-length, echoed-none, echo-fits}
 use Rattle.view.specs.View.{valueIn, valuesOf, warningsOf}
@@ -230,5 +230,5 @@ pub data-fits : (d : Device) (k : ℕ) (c : Command) (s : List ℕ) (skip : ℕ)
     → length (dataOf d k (echoOf c (drop skip (cut s))) c) ≤ 74
 unfolding dataOf badAxis
 data-fits d k c s skip g few e h =
-    text-fits d k (parts d g) few (ltb-false (d .count) k (within-count d k c e)) (echoOf c (drop skip (cut s))) (echo-short c s skip h)
+    text-fits d k (goodness d g) few (ltb-false (d .count) k (within-count d k c e)) (echoOf c (drop skip (cut s))) (echo-short c s skip h)
     (formOf c) (demands c .reply)

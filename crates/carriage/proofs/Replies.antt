@@ -1,4 +1,4 @@
--- The replies of a good record: their parts, written one behind the other, are the whole reply.
+-- The replies of a good record: their texts, written one behind the other, are the whole reply.
 -- Assumes nothing.
 use mathlib.Core.Path.{_≡_, refl, ap, _∙_}
 use mathlib.Core.Logic.{⊎-elim}

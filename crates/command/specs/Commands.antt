@@ -97,7 +97,7 @@ changes = false
 abbrev pub none : Row
 none = row [] [] Apart anytime evenMoving shows Nought (axes Axis.Nothing)
 
--- the words of the row, in two parts: 10 is for the first, 11 for the second; its setting is read, written, or there is none;
+-- the words of the row, in two groups: 10 is for the first, 11 for the second; its setting is read, written, or there is none;
 -- "On a parked device home, move, stop and estop are rejected"; STATUSBUSY: "park with an axis moving"; whether it only shows;
 -- the data of its reply; the command that it makes
 abbrev pub table : List Row

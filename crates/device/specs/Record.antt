@@ -1,4 +1,4 @@
--- The device record: made anew from its parts, its settings, the axes that a number means, and the fresh record.
+-- The device record: made anew from its fields, its settings, the axes that a number means, and the fresh record.
 -- "One device record holds four axis places"
 use mathlib.Core.Bool.{Bool, false, cond}
 use mathlib.Core.List.{List}
@@ -14,7 +14,7 @@ use Rattle.axis.specs.declared.Axis.{Axis}
 use Rattle.device.specs.declared.Comm.{Comm}
 use Rattle.device.specs.declared.Device.{Device}
 
--- the records, made anew from their parts
+-- the records, made anew from their fields
 abbrev pub comm : Number → Number → Number → Comm
 comm a l s = record { address = a; alert = l; checksum = s }
 

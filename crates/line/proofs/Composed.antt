@@ -145,10 +145,10 @@ stop-byte (c ∷ l) h =
     (λ k. rw (span-yes noColon c l (other-yes c k)) (stop-byte l (rw (span-yes noColon c l (other-yes c k)) at h)))
     (eq-or-ne c 58)
 
--- ---- the parts of a line: what the words are is left open
-pub data Parts : List ℕ → List (List ℕ) → Type 0 where
-  parts : {s k f : List ℕ} {ws : List (List ℕ)} → Content s ws → Checksum s k → Footer f → length (text "/" ++ s ++ k ++ f) ≤ 80
-      → Parts (text "/" ++ s ++ k ++ f) ws
+-- ---- how a line is composed: what the words are is left open
+pub data Composed : List ℕ → List (List ℕ) → Type 0 where
+  composed : {s k f : List ℕ} {ws : List (List ℕ)} → Content s ws → Checksum s k → Footer f → length (text "/" ++ s ++ k ++ f) ≤ 80
+      → Composed (text "/" ++ s ++ k ++ f) ws
 
 module _ {s k f : List ℕ} (p : Plain s) (c : Checksum s k) (g : Footer f) where
   body-read : parted (s ++ k) ≡ Frame.Content (length s)
@@ -169,9 +169,9 @@ pub record Framed (l : List ℕ) (ws : List (List ℕ)) : Type 0 where
   pub frame : frameOf l ≡ Frame.Content size
   pub words : cut (take size (drop 1 l)) ≡ ws
 
-pub parts-read : {l : List ℕ} {ws : List (List ℕ)} → Parts l ws → Framed l ws
+pub composed-read : {l : List ℕ} {ws : List (List ℕ)} → Composed l ws → Framed l ws
 unfolding text
-parts-read (parts {s} {k} {f} r c g h) =
+composed-read (composed {s} {k} {f} r c g h) =
     record {
       size = length s;
       frame = slash-first (text "/" ++ s ++ k ++ f) h refl ∙ tail-read (content-plain r) c g;
@@ -187,7 +187,7 @@ unfolding parted
 body-of x n e = rw (parted-fits x n e) (sum-of (span noColon x) n (take (span noColon x) x) (drop (span noColon x) x) (stop-byte x) e)
 
 compose : (t : List ℕ) (e n : ℕ) → n ≤ e → Plain (take n (take e t)) → Checksum (take n (take e t)) (drop n (take e t)) → Footer (drop e t)
-    → length (47 ∷ t) ≤ 80 → Parts (47 ∷ t) (cut (take n t))
+    → length (47 ∷ t) ≤ 80 → Composed (47 ∷ t) (cut (take n t))
 unfolding text
 compose t e n h p c g len =
     let x = take e t in
@@ -195,13 +195,13 @@ compose t e n h p c g len =
     put whole (ap cut (take-take n e t h)) (cut-content p) c g len
   where
     put : {s k f t : List ℕ} {ws vs : List (List ℕ)} → s ++ k ++ f ≡ t → ws ≡ vs → Content s ws → Checksum s k → Footer f
-        → length (47 ∷ t) ≤ 80 → Parts (47 ∷ t) vs
-    put q r s k f h = rw (← q, ← r) (parts s k f (rw q h))
+        → length (47 ∷ t) ≤ 80 → Composed (47 ∷ t) vs
+    put q r s k f h = rw (← q, ← r) (composed s k f (rw q h))
 
-tail-of : (t : List ℕ) (n : ℕ) → length (47 ∷ t) ≤ 80 → afterSlash t ≡ Frame.Content n → Parts (47 ∷ t) (cut (take n t))
+tail-of : (t : List ℕ) (n : ℕ) → length (47 ∷ t) ≤ 80 → afterSlash t ≡ Frame.Content n → Composed (47 ∷ t) (cut (take n t))
 tail-of t n len q = go (isFooter (drop (span printable t) t)) refl
   where
-    go : (b : Bool) → isFooter (drop (span printable t) t) ≡ b → Parts (47 ∷ t) (cut (take n t))
+    go : (b : Bool) → isFooter (drop (span printable t) t) ≡ b → Composed (47 ∷ t) (cut (take n t))
     go true h =
         let e = span printable t in
         let x = take e t in
@@ -217,13 +217,13 @@ pub slash-cons : (l : List ℕ) → getD l 0 0 ≡ 47 → l ≡ 47 ∷ drop 1 l
 slash-cons [] h = absurd (omega arith)
 slash-cons (x ∷ l) h = rw h
 
-pub parts-of : (l : List ℕ) (n : ℕ) → frameOf l ≡ Frame.Content n → Parts l (cut (take n (drop 1 l)))
-parts-of l n e =
+pub composed-of : (l : List ℕ) (n : ℕ) → frameOf l ≡ Frame.Content n → Composed l (cut (take n (drop 1 l)))
+composed-of l n e =
     ⊎-elim (λ h. let z : _≡_ {A = ℕ} 0 1 = cc (too-long l h) in absurd (omega arith))
     (λ h. ⊎-elim (λ k. as-slash (drop 1 l) (slash-cons l k) h (sym (slash-first l h k) ∙ e))
     (λ k. let z : _≡_ {A = ℕ} 0 1 = cc (no-slash l h k) in absurd (omega arith))
     (eq-or-ne (getD l 0 0) 47))
     (lt-or-le 80 (length l))
   where
-    as-slash : (t : List ℕ) → l ≡ 47 ∷ t → length l ≤ 80 → afterSlash t ≡ Frame.Content n → Parts l (cut (take n t))
+    as-slash : (t : List ℕ) → l ≡ 47 ∷ t → length l ≤ 80 → afterSlash t ≡ Frame.Content n → Composed l (cut (take n t))
     as-slash t q h r = rw q (tail-of t n (rw q at h) r)

@@ -35,7 +35,7 @@ use Rattle.line.specs.declared.LineRead.the-variants.{Addressed}
 use Rattle.line.specs.Spelling.{AxisWord, digit, Asked, Words, bare, addressed, with-axis, Line, line}
 use Rattle.line.specs.Reading.{frameOf, startsNumber, axisDigit, axisOf, addressOf, readWords, contentOf, framed, readLine, wordsOf, askedBy, readAsked}
 use Rattle.line.proofs.Steps.{starts-none, starts-digit}
-use Rattle.line.proofs.Composed.{Parts, parts, parts-read, parts-of}
+use Rattle.line.proofs.Composed.{Composed, composed, composed-read, composed-of}
 
 -- ---- the words: address, axis, and those of the command
 
@@ -137,14 +137,14 @@ words-of (w ∷ t) a true h e = go (readAddress w) refl (rw h at e)
 -- ---- the line
 written-read : {l : List ℕ} {a : Asked} → Line l a → readAsked l ≡ some a
 unfolding readAsked wordsOf readLine
-written-read (line c w k f h) = let r = parts-read (parts c k f h) in rw (r .frame, r .words) (words-read w)
+written-read (line c w k f h) = let r = composed-read (composed c k f h) in rw (r .frame, r .words) (words-read w)
 
-together : {l : List ℕ} {ws : List (List ℕ)} {a : Asked} → Parts l ws → Words ws a → Line l a
-together (parts c k f h) w = line c w k f h
+together : {l : List ℕ} {ws : List (List ℕ)} {a : Asked} → Composed l ws → Words ws a → Line l a
+together (composed c k f h) w = line c w k f h
 
 read-written : (l : List ℕ) (a : Asked) (f : Frame) → frameOf l ≡ f → askedBy (contentOf l f) (framed l f) ≡ some a → Line l a
 read-written l a (Frame.Refused n) q e = no-asked e
-read-written l a (Frame.Content n) q e = together (parts-of l n q)
+read-written l a (Frame.Content n) q e = together (composed-of l n q)
     (words-of (cut (take n (drop 1 l))) a (startsNumber (headWord (cut (take n (drop 1 l))))) refl e)
 
 -- For every line and every command, the line is read as the command exactly when the spelling rules write that line for it.

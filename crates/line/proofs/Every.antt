@@ -1,4 +1,4 @@
--- Every command whose parts are in range and whose line fits is read from some line: a reader that refuses everything is shut out.
+-- Every command that is in range and whose line fits is read from some line: a reader that refuses everything is shut out.
 -- Assumes nothing.
 use mathlib.Core.Path.{_≡_, refl, subst}
 use mathlib.Core.List.{List, _∷_, _++_, append-nil}
@@ -65,6 +65,6 @@ every-line a h fits =
     let words = written-words (a .command) (a .echo) (h .command) in
     rw (append-nil s) at (line-spelled (a .address) (a .axis) (h .address) (h .axis) spelled words Checksum.none (rw (append-nil s) fits))
 
--- Every command whose parts are in range, and whose line fits, is read from that line.
+-- Every command that is in range, and whose line fits, is read from that line.
 pub every-command : (a : Asked) → InRange a → length (lineFor a) ≤ 80 → readAsked (lineFor a) ≡ some a
 every-command a h fits = demand-3 (lineFor a) a .0 (every-line a h fits)

@@ -150,11 +150,11 @@ module _ (b : List ℕ) where
   length-short h = simp (lt-leb 3 (length b) h)
 
 -- all bytes pass where those of a front and those of the rest do
-all-parts : (p : ℕ → Bool) (n : ℕ) (l : List ℕ) → all p l ≡ all p (take n l) && all p (drop n l)
+all-split : (p : ℕ → Bool) (n : ℕ) (l : List ℕ) → all p l ≡ all p (take n l) && all p (drop n l)
 unfolding fold
-all-parts p zero l = refl
-all-parts p (suc n) [] = refl
-all-parts p (suc n) (c ∷ l) = rw (all-parts p n l) (sym (and-assoc (p c) _ _))
+all-split p zero l = refl
+all-split p (suc n) [] = refl
+all-split p (suc n) (c ∷ l) = rw (all-split p n l) (sym (and-assoc (p c) _ _))
 
 -- the tests of `refusal`
 module _ (s : List ℕ) (n : ℕ) (is : n ≡ span printable s) where
@@ -250,7 +250,7 @@ module _ (b : List ℕ) (c : ℕ) (is : c ≡ contentLength b) where
     unfolding refusedBody
     checksum-wrong l q e h g =
         let w : all printable b ≡ all printable (drop c b) =
-        rw (all-parts printable c b, passes-all printable (take c b) printable-front) in
+        rw (all-split printable c b, passes-all printable (take c b) printable-front) in
         g ∙ ap refusedBody (rest c b) ∙ rw (← w) (sym (body-refused b (sum-is b c (colon-first l) false (behind-3 l) q (sym h ∙ e))))
 
   -- a byte before the checksum is forbidden, or a colon out of place

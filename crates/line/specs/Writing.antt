@@ -15,7 +15,7 @@ contentFor a = spaced (twoDigits (a .address) ∷ digits (a .axis) ∷ commandWo
 unfoldable pub lineFor : Asked → List ℕ
 lineFor a = text "/" ++ contentFor a ++ text "\n"
 
--- its parts are in range: an address 0 to 99, an axis of one digit, a command that can be spelled
+-- all that it has is in range: an address 0 to 99, an axis of one digit, a command that can be spelled
 pub record InRange (a : Asked) : Type 0 where
   pub address : a .address ≤ highestAddress
   pub axis : a .axis ≤ 9

@@ -1,4 +1,4 @@
-// Writes a reply into a lent buffer, part by part: its head, its data, its end.
+// Writes a reply into a lent buffer, piece by piece: its head, its data, its end.
 // specs/Reply.antt says how they compose to a reply.
 ghost use mathlib.Core.Path.{_≡_};
 ghost use mathlib.Core.List.{_++_};

@@ -12,12 +12,12 @@ use Rattle.command.specs.Commands.{carriesWords, echoOf}
 use Rattle.line.specs.declared.Frame.{Frame}
 use Rattle.line.specs.declared.Frame.the-variants as Frame
 use Rattle.line.specs.Reading.{frameOf, contentOf, wordsOf}
-use Rattle.line.proofs.Composed.{Parts, parts, parts-of}
+use Rattle.line.proofs.Composed.{Composed, composed, composed-of}
 use Rattle.roundtrip.proofs.WrittenWords.{content-words}
 use Rattle.roundtrip.proofs.Texts.{each-drop}
 
-parts-words : {l : List ℕ} {ws : List (List ℕ)} → Parts l ws → Each Word ws
-parts-words (parts c k f h) = content-words c
+composed-words : {l : List ℕ} {ws : List (List ℕ)} → Composed l ws → Each Word ws
+composed-words (composed c k f h) = content-words c
 
 pub line-words : (l : List ℕ) → Each Word (wordsOf l)
 unfolding wordsOf
@@ -25,7 +25,7 @@ line-words l = go (frameOf l) refl
   where
     go : (f : Frame) → frameOf l ≡ f → Each Word (contentOf l f)
     go (Frame.Refused n) q = none
-    go (Frame.Content n) q = parts-words (parts-of l n q)
+    go (Frame.Content n) q = composed-words (composed-of l n q)
 
 -- the words that a command carries are among them
 pub echo-words : {ws : List (List ℕ)} (c : Command) → Each Word ws → Each Word (echoOf c ws)

@@ -26,7 +26,7 @@ use Rattle.device.specs.Record.{value, many, axesOf}
 use Rattle.device.specs.Good.{inRange, good}
 use Rattle.rules.specs.Refusals.{badAxis, refusal}
 use Rattle.rules.proofs.Accepted.{within-count}
-use Rattle.rules.proofs.GoodStays.{parts}
+use Rattle.rules.proofs.GoodStays.{goodness}
 use Rattle.reply.specs.Data.{values}
 use Rattle.host_reader.specs.Spelling.{Data}
 use Rattle.view.specs.View.{valueIn, valuesOf, warningsOf}
@@ -46,7 +46,7 @@ use Rattle.roundtrip.proofs.Texts.{one-data, decimal-word, values-data,
 module _ (d : Device) (g : good d ≡ true) where
   at : (i : ℕ) → i < 6 → inRange d (getD deviceSettings i CommAddress) ≡ true
   unfolding deviceSettings
-  at i h = nth (inRange d) deviceSettings CommAddress i h (parts d g .settings)
+  at i h = nth (inRange d) deviceSettings CommAddress i h (goodness d g .settings)
 
   pub good-some : 1 ≤ d .count
   unfolding deviceSettings

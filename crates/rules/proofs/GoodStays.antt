@@ -37,15 +37,15 @@ use Rattle.rules.specs.Reports.{report}
 use Rattle.rules.proofs.Accepted.{in-scope, not-parked, not-busy, each-permits, device-takes, taken}
 use Rattle.rules.proofs.RefusalKeeps.{refusal-keeps, accepted-next, report-keeps, report-next}
 
--- the parts of goodness, by name
+-- what goodness asks, by name
 pub record Good (d : Device) : Type 0 where
   pub settings : all (inRange d) deviceSettings ≡ true
   pub axes : all goodAxis (axesOf d 0) ≡ true
   pub still : not (d .parked && any moving (axesOf d 0)) ≡ true
 
-pub parts : (d : Device) → good d ≡ true → Good d
+pub goodness : (d : Device) → good d ≡ true → Good d
 unfolding good
-parts d h =
+goodness d h =
     let a = all (inRange d) deviceSettings in
     let b = all goodAxis (axesOf d 0) in
     let c = not (d .parked && any moving (axesOf d 0)) in
@@ -200,7 +200,7 @@ pub good-stays : (d : Device) (k : ℕ) (c : Command) → good d ≡ true → go
 unfolding obey
 good-stays d k c h =
     elim (ℕ-discrete (obey d k c .number) 0) [
-      | yes e ↦ rw (accepted-next d k c e) (whole (next d k c) (next-good d k (parts d h) c e))
+      | yes e ↦ rw (accepted-next d k c e) (whole (next d k c) (next-good d k (goodness d h) c e))
       | no n ↦ rw (refusal-keeps d k c n) h
     ]
 
@@ -211,6 +211,6 @@ report-good d axis r h =
     let k = place (axis .0) in
     elim (ℕ-discrete (report d axis r .number) 0) [
       | yes e ↦ rw (report-next d axis r e) (whole (onAxes (reported r) k d)
-          (still-good d k (reported r) (takes r) (taken d k r e) (λ a t g. reported-good a g r t) (parts d h) (reported-still r)))
+          (still-good d k (reported r) (takes r) (taken d k r e) (λ a t g. reported-good a g r t) (goodness d h) (reported-still r)))
       | no n ↦ rw (report-keeps d axis r n) h
     ]

@@ -1,4 +1,4 @@
--- The settings of an axis as a record: made anew from its parts, and the fresh one.
+-- The settings of an axis as a record: made anew from its fields, and the fresh one.
 -- Nothing here says what is right or wrong.
 use lib.IntN.{pos}
 use Rattle.units.specs.Units.{position, speed, number}

@@ -1,4 +1,4 @@
--- The three parts of goodness, each from its own function.
+-- The three questions of goodness, each from its own function.
 -- Assumes nothing.
 use Rattle.device.specs.Record.{many, axesOf}
 use Rattle.device.specs.Good.{good}

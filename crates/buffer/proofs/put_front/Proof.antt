@@ -7,8 +7,8 @@ use lib.ListN.{length, take}
 use lib.Seq.{take-all}
 use Rattle.buffer.specs.Wrote.{Wrote}
 use Rattle.buffer.proofs.Wrote.{wrote-none, wrote-more, wrote-length}
-use Rattle.buffer.proofs.put_part.Statement.{statement}
-use Rattle.buffer.proofs.put_part.Tie as tie
+use Rattle.buffer.proofs.put_front.Statement.{statement}
+use Rattle.buffer.proofs.put_front.Tie as tie
 
 abbrev Inv-loop : tie.InvT-loop
 Inv-loop buf₀ at text next₀ i₀ buf next i = (i ≤ length text) × Wrote buf₀ at (take i text) buf next
@@ -37,8 +37,8 @@ returns c =
     let start = loop .before .before .before in
     rw (take-all (loop .loop .i) (start .args .text .now) (search needs)) at (loop .loop .inv .1)
 
-pub put-part-spec : {M : Type 1} → statement M
-put-part-spec =
+pub put-front-spec : {M : Type 1} → statement M
+put-front-spec =
     tie.close
     (tie.spec Inv-loop μ-loop loop-holds (λ c. search needs) (λ c κs. search needs) (λ c. search needs) (λ c. search needs) loop-again
     same-length returns)
