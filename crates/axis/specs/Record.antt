@@ -52,6 +52,10 @@ moving a = inMotion (a .motion)
 unfoldable pub stopped : Axis → Axis
 stopped a = cond (moving a) (withMotion Stopping a) a
 
+-- "each axis sixteen stored positions"
+abbrev pub storedPositions : ℕ
+storedPositions = 16
+
 -- "each axis place idle, no reference, ... all else 0, no warnings"
 unfoldable pub freshAxis : Axis
-freshAxis = axis freshSettings Idle false 0 (replicate 16 (position (pos 0)))
+freshAxis = axis freshSettings Idle false 0 (replicate storedPositions (position (pos 0)))

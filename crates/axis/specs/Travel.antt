@@ -8,6 +8,7 @@ use lib.ListN.{getD}
 use Rattle.units.specs.Units.{position, place, _to_, within}
 use Rattle.settings.specs.Types.{Position, Speed, Number, Target, Abs, Rel, Min, Max, Stored}
 use Rattle.axis.specs.declared.Axis.{Axis}
+use Rattle.axis.specs.Record.{storedPositions}
 
 abbrev pub limitMin : Axis → ℤ
 limitMin a = a .settings .limit .min .0
@@ -20,7 +21,7 @@ maxSpeed a = a .settings .maxspeed .0
 
 -- "storepos: number 1 to 16"
 abbrev pub isPlace : Number → Bool
-isPlace n = leb 1 (place (n .0)) && leb (place (n .0)) 16
+isPlace n = leb 1 (place (n .0)) && leb (place (n .0)) storedPositions
 
 -- the position stored under a number from 1 to 16, and 0 under any other
 unfoldable pub stored : Number → Axis → Position

@@ -5,6 +5,7 @@ ghost use Rattle.laws.specs.Lists.{all};
 ghost use Rattle.axis.specs.Good.{goodPosition, goodMotion, goodAxis};
 use crate::Axis;
 use crate::Motion;
+use crate::STORED;
 use units::Position;
 
 impl Motion {
@@ -22,12 +23,12 @@ impl Motion {
 }
 
 // Is every stored position within ±1000000000?
-fn all_bounded(s: [Position; 16]) -> bool
+fn all_bounded(s: [Position; STORED]) -> bool
     ensures { λ r. ⌜ r ≡ all goodPosition s ⌝ }
 {
     let mut ok = true;
     let mut i: usize = 0;
-    while i < 16 {
+    while i < STORED {
         let p = s[i];
         let q = p.bounded();
         ok = ok & q;

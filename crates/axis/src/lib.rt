@@ -6,6 +6,9 @@ use settings::Settings;
 use units::Position;
 use units::Speed;
 
+// "each axis sixteen stored positions"
+pub const STORED: usize = 16;
+
 // The motion of an axis.
 pub enum Motion {
     Idle,
@@ -21,7 +24,7 @@ pub struct Axis {
     pub motion: Motion,
     pub reference: bool,
     pub warnings: u32,
-    pub stored: [Position; 16],
+    pub stored: [Position; STORED],
 }
 
 impl Motion {
@@ -101,7 +104,7 @@ impl Axis {
             motion: Motion::Idle,
             reference: false,
             warnings: 0,
-            stored: [zero; 16],
+            stored: [zero; STORED],
         }
     }
 }

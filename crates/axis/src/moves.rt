@@ -6,6 +6,7 @@ ghost use Rattle.axis.specs.Warnings.{active as activeOf};
 ghost use Rattle.axis.specs.Moves.{moved as movedTo, store as storeAt, cleared as clearedOf};
 use crate::Axis;
 use crate::Motion;
+use crate::STORED;
 use command::Target;
 use units::Number;
 use units::Position;
@@ -30,7 +31,7 @@ impl Axis {
         if k < 1 {
             return self;
         }
-        if 16 < k {
+        if STORED < k {
             return self;
         }
         let i = k - 1;

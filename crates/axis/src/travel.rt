@@ -4,6 +4,7 @@ ghost use mathlib.Core.Path.{_≡_};
 ghost use Rattle.axis.specs.Aim.{within as withinLimits, aim as aimOf};
 ghost use Rattle.axis.specs.Travel.{isPlace, stored as storedOf, between as betweenLimits, mayMoveTo, mayRunAt, mayStore};
 use crate::Axis;
+use crate::STORED;
 use command::Target;
 use units::Number;
 use units::Position;
@@ -16,7 +17,7 @@ pub fn is_place(n: Number) -> bool
 {
     let k = n.place();
     let a = 1 <= k;
-    let b = k <= 16;
+    let b = k <= STORED;
     a & b
 }
 
@@ -29,7 +30,7 @@ impl Axis {
         if k < 1 {
             return Position(0);
         }
-        if 16 < k {
+        if STORED < k {
             return Position(0);
         }
         self.stored[k - 1]

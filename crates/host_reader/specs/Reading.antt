@@ -10,6 +10,7 @@ use Rattle.laws.specs.Text.{colon, text, same}
 use Rattle.numbers.specs.Reading.{valueOf, readPair, saysSum}
 use Rattle.words.specs.Find.{index}
 use Rattle.flags.specs.Flags.{warningNames}
+use Rattle.reply.specs.Reply.{longestReply}
 use Rattle.host_reader.specs.declared.Message.{Message}
 use Rattle.host_reader.specs.declared.Head.{Head}
 use Rattle.host_reader.specs.declared.ReplyRead.{ReplyRead}
@@ -61,8 +62,11 @@ rightHead h = leb 1 (h .address) && ltb (h .axis) 10 && ltb (h .verdict) 2 && lt
 unfoldable pub dataByte : ℕ → Bool
 dataByte c = leb 32 c && leb c 126 && not (eqb c colon)
 
+abbrev pub dataPlace : ℕ
+dataPlace = 17
+
 unfoldable pub dataLength : List ℕ → ℕ
-dataLength l = span dataByte (drop 17 l)
+dataLength l = span dataByte (drop dataPlace l)
 
 -- "checksum optional but right if present (either case)", and CR LF
 unfoldable pub rightEnd : List ℕ → List ℕ → Bool
@@ -71,7 +75,7 @@ rightEnd s e =
 
 -- "one or more bytes", "first byte no space", and what is summed is all between `@` and the data's end
 unfoldable pub framed : List ℕ → ℕ → Bool
-framed l end = marked l && ltb 17 end && not (stands l 17 (text " ")) && rightEnd (drop 1 (take end l)) (drop end l)
+framed l end = marked l && ltb dataPlace end && not (stands l dataPlace (text " ")) && rightEnd (drop 1 (take end l)) (drop end l)
 
 unfoldable pub messageOf : Head → ℕ → Message
 messageOf h n =
@@ -80,7 +84,7 @@ messageOf h n =
 -- "at most 96 bytes in all"
 unfoldable pub readReply : List ℕ → ReplyRead
 readReply l =
-    cond (leb (length l) 96 && framed l (17 + dataLength l) && rightHead (headIn l)) (Reply (messageOf (headIn l) (dataLength l))) NotReply
+    cond (leb (length l) longestReply && framed l (dataPlace + dataLength l) && rightHead (headIn l)) (Reply (messageOf (headIn l) (dataLength l))) NotReply
 
 -- document 01's number for each case of the answer: "Accepted is 0", and NOTREPLY is 30
 abbrev pub numberOf : ReplyRead → ℕ

@@ -8,6 +8,7 @@ use Rattle.laws.specs.Text.{space, text, spaced}
 use Rattle.numbers.specs.Checksum.{checksum}
 use Rattle.numbers.specs.Spelling.{Digit, HexPair}
 use Rattle.words.specs.Spelling.{WordByte}
+use Rattle.reply.specs.Reply.{longestReply}
 use Rattle.host_reader.specs.declared.Message.{Message}
 
 -- "address in two digits", "address 01 to 99"
@@ -60,6 +61,6 @@ pub data End (s : List ℕ) : List ℕ → Type 0 where
 pub data Reply : List ℕ → Message → Type 0 where
   reply : {a k v s w d e : List ℕ} {n m i : ℕ} {ok busy : Bool} → Address a n → Axis k m → Verdict v ok → Status s busy → Warning w i
       → Data d
-      → End (spaced (a ∷ k ∷ v ∷ s ∷ w ∷ d ∷ [])) e → length (text "@" ++ spaced (a ∷ k ∷ v ∷ s ∷ w ∷ d ∷ []) ++ e) ≤ 96
+      → End (spaced (a ∷ k ∷ v ∷ s ∷ w ∷ d ∷ [])) e → length (text "@" ++ spaced (a ∷ k ∷ v ∷ s ∷ w ∷ d ∷ []) ++ e) ≤ longestReply
       → Reply (text "@" ++ spaced (a ∷ k ∷ v ∷ s ∷ w ∷ d ∷ []) ++ e)
       (record { address = n; axis = m; ok = ok; busy = busy; warning = i; length = length d })

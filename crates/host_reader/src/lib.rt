@@ -3,8 +3,8 @@
 ghost use mathlib.Core.Path.{_≡_};
 ghost use Rattle.host_reader.specs.Reading.{dataByte};
 
-// "at most 96 bytes in all"
-pub const LONGEST: usize = 96;
+// Where the data of a reply begin.
+pub const DATA_PLACE: usize = 17;
 
 // What a reply says: OK or not, BUSY or not, its warning by the place from 1, 0 for `--`.
 // The data begins at byte 17 of the line, and has so many bytes.

@@ -2,7 +2,8 @@
 // The rules are in specs/Reading.antt; proofs/Replies.antt shows that just what is spelled is read.
 ghost use mathlib.Core.Path.{_≡_};
 ghost use Prim.Native.Nat.{_+_};
-ghost use Rattle.host_reader.specs.Reading.{dataLength, rightEnd, framed, readReply};
+ghost use Rattle.host_reader.specs.Reading.{dataPlace, dataLength, rightEnd, framed, readReply};
+use crate::DATA_PLACE;
 use crate::Message;
 use crate::ReplyRead;
 use crate::data_byte;
@@ -13,13 +14,14 @@ use crate::reading::fields::read_head;
 use crate::reading::fields::rest;
 use crate::reading::fields::right_head;
 use crate::reading::fields::stands_at;
+use reply::LONGEST_REPLY;
 use words::same_bytes;
 
 // The place behind the data.
 fn data_end(line: &[u8]) -> usize
-    ensures { λ r. ⌜ r ≡ 17 + dataLength (now (line .entry)) ⌝ }
+    ensures { λ r. ⌜ r ≡ dataPlace + dataLength (now (line .entry)) ⌝ }
 {
-    let mut i: usize = 17;
+    let mut i: usize = DATA_PLACE;
     while i < line.len() {
         if data_byte(line[i]) {
             i += 1;
@@ -49,15 +51,15 @@ fn is_framed(line: &[u8], end: usize) -> bool
     ensures { λ r. ⌜ r ≡ framed (now (line .entry)) end ⌝ }
 {
     let marks = is_marked(line);
-    let space = stands_at(line, 17, b" ");
+    let space = stands_at(line, DATA_PLACE, b" ");
     let ends = right_end(rest(field(line, 0, end), 1), rest(line, end));
-    marks & (17 < end) & !space & ends
+    marks & (DATA_PLACE < end) & !space & ends
 }
 
 pub fn read_reply(line: &[u8]) -> ReplyRead
     ensures { λ r. ⌜ r ≡ readReply (now (line .entry)) ⌝ }
 {
-    if 96 < line.len() {
+    if LONGEST_REPLY < line.len() {
         return ReplyRead::NotReply;
     }
     let end = data_end(line);
@@ -69,7 +71,7 @@ pub fn read_reply(line: &[u8]) -> ReplyRead
             ok: h.verdict == 1,
             busy: h.status == 1,
             warning: h.warning,
-            length: end - 17,
+            length: end - DATA_PLACE,
         });
     }
     ReplyRead::NotReply
