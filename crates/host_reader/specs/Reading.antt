@@ -6,6 +6,7 @@ use Prim.Native.Nat.{ℕ, _+_, _*_}
 use lib.Dec.{eqb, ltb, leb}
 use lib.ListN.{length, getD, take, drop}
 use Rattle.laws.specs.Lists.{span}
+use Rattle.laws.specs.Refusals.{NOTREPLY}
 use Rattle.laws.specs.Text.{colon, text, same}
 use Rattle.numbers.specs.Reading.{valueOf, readPair, saysSum}
 use Rattle.words.specs.Find.{index}
@@ -84,9 +85,11 @@ messageOf h n =
 -- "at most 96 bytes in all"
 unfoldable pub readReply : List ℕ → ReplyRead
 readReply l =
-    cond (leb (length l) longestReply && framed l (dataPlace + dataLength l) && rightHead (headIn l)) (Reply (messageOf (headIn l) (dataLength l))) NotReply
+    cond (leb (length l) longestReply && framed l (dataPlace + dataLength l) && rightHead (headIn l))
+    (Reply (messageOf (headIn l) (dataLength l)))
+    NotReply
 
 -- document 01's number for each case of the answer: "Accepted is 0", and NOTREPLY is 30
 abbrev pub numberOf : ReplyRead → ℕ
 numberOf (Reply h) = 0
-numberOf NotReply = 30
+numberOf NotReply = NOTREPLY
