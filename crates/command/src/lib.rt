@@ -82,6 +82,6 @@ pub enum Command {
     OfDevice(DeviceCommand),
 }
 
+pub mod access;
 pub mod forms;
 pub mod kinds;
-pub mod settings;
