@@ -1,24 +1,9 @@
--- What is asked of each axis on a walk, and what is done to each.
--- Each question is one of the rules of the crates below.
+-- The axis places that a walk looks at: some neighbours of the four that there are.
+-- Which of them a place is, is asked of each place by its number.
 use mathlib.Core.Bool.{Bool, _&&_}
 use Prim.Native.Nat.{ℕ, _+_, _-_, min}
 use lib.Dec.{leb, ltb}
-use Rattle.axis.specs.Reports.{takes, reported}
-use Rattle.axis.specs.Commands.{permits, axisAfter}
-use Rattle.axis.specs.declared.Axis.{Axis}
 use Rattle.device.specs.declared.walks.Stretch.{Stretch}
-use Rattle.device.specs.declared.walks.Test.{Test}
-use Rattle.device.specs.declared.walks.Test.the-variants.{Permits, Takes}
-use Rattle.device.specs.declared.walks.Change.{Change}
-use Rattle.device.specs.declared.walks.Change.the-variants.{Obey, Take}
-
-abbrev pub passes : Test → Axis → Bool
-passes (Permits c) a = permits c a
-passes (Takes r) a = takes r a
-
-abbrev pub changed : Change → Axis → Axis
-changed (Obey c) a = axisAfter c a
-changed (Take r) a = reported r a
 
 -- n places from the number k on, of the four that there are
 unfoldable pub stretchOf : ℕ → ℕ → Stretch

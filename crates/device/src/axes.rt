@@ -4,13 +4,13 @@ ghost use mathlib.Core.Path.{_≡_};
 ghost use Rattle.laws.specs.Lists.{all, any};
 ghost use Rattle.flags.specs.Flags.{mask, union};
 ghost use Rattle.axis.specs.Record.{moving as movingOf};
+ghost use Rattle.axis.specs.Commands.{permits as permitsOf, axisAfter};
 ghost use Rattle.axis.specs.Warnings.{active as activeOf};
-ghost use Rattle.device.specs.Each.{passes as passesOf, changed as changedBy, stretchOf};
+ghost use Rattle.device.specs.Each.{stretchOf};
 ghost use Rattle.device.specs.Record.{many as manyOf, axesOf, onAxes};
 use crate::Device;
-use crate::walks::Change;
 use crate::walks::Stretch;
-use crate::walks::Test;
+use command::AxisCommand;
 
 impl Device {
     fn many(self, k: u64) -> u64
@@ -26,12 +26,12 @@ impl Device {
         crate::walks::stretch_of(k, self.many(k))
     }
 
-    // Does every axis that k means pass the test?
-    pub fn each(self, k: u64, t: Test) -> bool
-        ensures { λ r. ⌜ r ≡ all (passesOf t) (axesOf self k) ⌝ }
+    // Does every axis that k means permit the command's values?
+    pub fn permits(self, k: u64, c: AxisCommand) -> bool
+        ensures { λ r. ⌜ r ≡ all (permitsOf c) (axesOf self k) ⌝ }
     {
         let axes = self.axes;
-        crate::walks::ask_each(axes, k, self.many(k), t)
+        crate::walks::ask_each(axes, k, self.many(k), c)
     }
 
     // Does some axis that k means move?
@@ -50,12 +50,12 @@ impl Device {
         crate::walks::join_flags(axes, k, self.many(k))
     }
 
-    // Every axis that k means changed, and all other places as they are.
-    pub fn change(mut self, k: u64, g: Change) -> Device
-        ensures { λ r. ⌜ r ≡ onAxes (changedBy g) k self ⌝ }
+    // Every axis that k means after the command, and all other places as they are.
+    pub fn obeyed(mut self, k: u64, c: AxisCommand) -> Device
+        ensures { λ r. ⌜ r ≡ onAxes (axisAfter c) k self ⌝ }
     {
         let axes = self.axes;
-        let next = crate::walks::change_each(axes, k, self.many(k), g);
+        let next = crate::walks::change_each(axes, k, self.many(k), c);
         self.axes = next;
         self
     }

@@ -1,70 +1,24 @@
-// Walks over the axis places of a device: whether they are good, whether one moves, their flags joined, what a command or a report asks and does.
+// Walks over the axis places of a device: whether they are good, whether one moves, their flags joined, what a command asks and does.
 // The places are n from the number k on, or as many of them as there are; k is 1 for the first, and 0 means the same.
 ghost use mathlib.Core.Path.{_≡_};
-ghost use mathlib.Core.Bool.{cond, _&&_};
+ghost use mathlib.Core.Bool.{true, cond, _&&_};
 ghost use Prim.Native.Nat.{_+_, _-_, _≤_};
-ghost use lib.ListN.{length, take, drop};
+ghost use lib.ListN.{take, drop};
 ghost use Rattle.laws.specs.Lists.{all, any, changeFrom};
 ghost use Rattle.flags.specs.Flags.{bits, mask, either, union};
 ghost use Rattle.axis.specs.Record.{moving as movingOf};
 ghost use Rattle.axis.specs.Good.{goodAxis};
+ghost use Rattle.axis.specs.Commands.{permits as permitsOf, axisAfter};
 ghost use Rattle.axis.specs.Warnings.{active as activeOf};
-ghost use Rattle.device.specs.Each.{passes as passesOf, changed as changedBy, stretchOf, covers as coversAt};
+ghost use Rattle.device.specs.Each.{stretchOf, covers as coversAt};
 use axis::Axis;
-use axis::reports::Report;
 use command::AxisCommand;
 use units::lesser;
-
-// What is asked of an axis.
-pub enum Test {
-    Permits(AxisCommand),
-    Takes(Report),
-}
-
-// What is done to an axis.
-pub enum Change {
-    Obey(AxisCommand),
-    Take(Report),
-}
 
 // Some neighbouring axis places.
 pub struct Stretch {
     pub from: usize,
     pub many: usize,
-}
-
-fn passes(a: Axis, t: Test) -> bool
-    ensures { λ r. ⌜ r ≡ passesOf t a ⌝ }
-{
-    match t {
-        Test::Permits(c) => axis::commands::permits(a, c),
-        Test::Takes(r) => axis::reports::takes(a, r),
-    }
-}
-
-fn changed(a: Axis, g: Change) -> Axis
-    ensures { λ r. ⌜ r ≡ changedBy g a ⌝ }
-{
-    match g {
-        Change::Obey(c) => axis::commands::after(a, c),
-        Change::Take(r) => axis::reports::reported(a, r),
-    }
-}
-
-fn all_pass(axes: [Axis; 4], t: Test, from: usize, many: usize) -> bool
-    requires { ⌜ from + many ≤ 4 ⌝ }
-    ensures { λ r. ⌜ (length axes ≡ 4) × (r ≡ all (passesOf t) (take many (drop from axes))) ⌝ }
-{
-    let mut ok = true;
-    let mut n: usize = 0;
-    while n < many {
-        let i = from + n;
-        let a = axes[i];
-        let q = passes(a, t);
-        ok = ok & q;
-        n = n + 1;
-    }
-    ok
 }
 
 fn before(k: u64) -> u64
@@ -141,12 +95,27 @@ pub fn any_moving(axes: [Axis; 4], k: u64, n: u64) -> bool
     a | (b | (c | d))
 }
 
-// Does each of these axes pass the test?
-pub fn ask_each(axes: [Axis; 4], k: u64, n: u64, t: Test) -> bool
-    ensures { λ r. ⌜ r ≡ all (passesOf t) (take n (drop (k - 1) axes)) ⌝ }
+fn asked_at(p: Stretch, i: usize, a: Axis, c: AxisCommand) -> bool
+    requires { ⌜ p .from + p .many ≤ 4 ⌝ }
+    ensures { λ r. ⌜ r ≡ cond (coversAt p i) (permitsOf c a) true ⌝ }
+{
+    if covers(p, i) {
+        axis::commands::permits(a, c)
+    } else {
+        true
+    }
+}
+
+// Does each of these axes permit the command's values?
+pub fn ask_each(axes: [Axis; 4], k: u64, n: u64, c: AxisCommand) -> bool
+    ensures { λ r. ⌜ r ≡ all (permitsOf c) (take n (drop (k - 1) axes)) ⌝ }
 {
     let p = stretch_of(k, n);
-    all_pass(axes, t, p.from, p.many)
+    let x = asked_at(p, 0, axes[0], c);
+    let y = asked_at(p, 1, axes[1], c);
+    let z = asked_at(p, 2, axes[2], c);
+    let w = asked_at(p, 3, axes[3], c);
+    x & (y & (z & w))
 }
 
 // The flags that are active on some of these axes, FD to WR, as a mask.
@@ -160,22 +129,23 @@ pub fn join_flags(axes: [Axis; 4], k: u64, n: u64) -> u32
     join_at(p, 0, axes[0], b)
 }
 
-// The axis changed, where the stretch covers it.
-fn changed_at(p: Stretch, i: usize, a: Axis, g: Change) -> Axis
-    requires { ⌜ p .from + p .many ≤ 4 ⌝ }
-    ensures { λ r. ⌜ r ≡ cond (coversAt p i) (changedBy g a) a ⌝ }
-{
-    if covers(p, i) { changed(a, g) } else { a }
-}
-
-// These axes changed, and all other places as they are. Each place is named, so that the record is not copied for an index.
-pub fn change_each(axes: [Axis; 4], k: u64, n: u64, g: Change) -> [Axis; 4]
-    ensures { λ r. ⌜ r ≡ changeFrom (changedBy g) (k - 1) n axes ⌝ }
+// These axes after the command, and all other places as they are. Each place is named, so that the record is not copied for an index.
+pub fn change_each(axes: [Axis; 4], k: u64, n: u64, c: AxisCommand) -> [Axis; 4]
+    ensures { λ r. ⌜ r ≡ changeFrom (axisAfter c) (k - 1) n axes ⌝ }
 {
     let p = stretch_of(k, n);
-    let a = changed_at(p, 0, axes[0], g);
-    let b = changed_at(p, 1, axes[1], g);
-    let c = changed_at(p, 2, axes[2], g);
-    let d = changed_at(p, 3, axes[3], g);
-    [a, b, c, d]
+    let mut next = axes;
+    if covers(p, 0) {
+        next[0] = axis::commands::after(axes[0], c);
+    }
+    if covers(p, 1) {
+        next[1] = axis::commands::after(axes[1], c);
+    }
+    if covers(p, 2) {
+        next[2] = axis::commands::after(axes[2], c);
+    }
+    if covers(p, 3) {
+        next[3] = axis::commands::after(axes[3], c);
+    }
+    next
 }

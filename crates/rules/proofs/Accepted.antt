@@ -58,8 +58,12 @@ pub device-takes : (d : Device) (k : ℕ) (c : DeviceCommand) → refusal d k (O
 unfolding badData
 device-takes d k c e = not-false (deviceTakes c) (data-right d k (OfDevice c) e)
 
--- an accepted report: its axis is there, and takes it
+-- an accepted report: the record is good, its axis is there, and takes it
 module _ (d : Device) (k : ℕ) (r : Report) (e : reportRefusal d k r ≡ 0) where
+  pub told-good : good d ≡ true
+  unfolding reportRefusal
+  told-good = not-false (good d) (unmet 20 (not (good d)) _ e)
+
   reported-to : (isAxis d k && all (takes r) (axesOf d k)) ≡ true
   unfolding reportRefusal badReport
   reported-to = not-false (isAxis d k && all (takes r) (axesOf d k)) (unmet 21 (badReport d k r) [] (below 20 (not (good d)) _ e))

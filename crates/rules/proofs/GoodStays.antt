@@ -2,11 +2,13 @@
 -- Assumes nothing else of the record.
 use mathlib.Core.Path.{_≡_, refl, ap}
 use mathlib.Core.Bool.{Bool, true, false, not, _&&_}
-use Prim.Native.Nat.{ℕ, _-_}
+use Prim.Native.Nat.{ℕ, _-_, _≤_}
 use native.Mathlib.Decide.{ℕ-discrete}
 use native.Mathlib.Omega.{arith}
 use lib.Dec.{eqb}
-use borrow.Author.Tests.{eqb-true}
+use lib.IntN.{pos}
+use lib.Signed.{leZ}
+use borrow.Author.Tests.{leb-true, eqb-true}
 use Rattle.laws.specs.Lists.{fold, all, any}
 use Rattle.laws.proofs.Bools.{and-left, and-right, and-both, not-true, not-false, clash}
 use Rattle.laws.proofs.Walks.{nth, all-where, none-after}
@@ -120,6 +122,12 @@ module _ (f : DeviceSetting → Bool) where
   one h SystemAccess = nth f deviceSettings CommAddress 3 (omega arith) h
   one h DeviceId = nth f deviceSettings CommAddress 4 (omega arith) h
   one h SystemAxisCount = nth f deviceSettings CommAddress 5 (omega arith) h
+
+-- "system.axiscount ... 1 to 4"
+pub good-count : (d : Device) → good d ≡ true → d .count ≤ 4
+good-count d h =
+    leb-true (d .count) 4
+    (and-right (leZ (pos 1) (pos (d .count))) (leZ (pos (d .count)) (pos 4)) (one (inRange d) (goodness d h .settings) SystemAxisCount))
 
 -- a setting of the device, set within its range
 module _ (n : Number) (d : Device) (h : Good d) where

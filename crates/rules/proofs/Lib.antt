@@ -7,3 +7,5 @@ pub mod BeyondCount
 pub mod GoodStays
 pub mod Cases
 pub mod Ruled
+pub mod Standing
+pub mod ReportAxis

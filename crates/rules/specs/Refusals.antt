@@ -1,7 +1,7 @@
 -- The table of refusals from 10 on: which of them a command meets first.
 -- Each check runs over every axis that the command concerns before the next check.
 use mathlib.Core.Bool.{Bool, true, false, not, _&&_}
-use mathlib.Core.List.{List, [], _∷_}
+use mathlib.Core.List.{List, [], _∷_, _++_}
 use Prim.Native.Nat.{ℕ}
 use lib.Dec.{eqb, ltb}
 use Rattle.laws.specs.Lists.{all, any}
@@ -55,18 +55,20 @@ unfoldable pub badData : Device → ℕ → Command → Bool
 badData d k (OfAxes c) = not (all (permits c) (axesOf d k))
 badData d k (OfDevice c) = not (deviceTakes c)
 
--- the table, where x is what the command demands. BADCOMMAND here is "set of a read-only setting", which the line reader never
--- gives: a device that is given one refuses it too.
-abbrev pub rows : Device → ℕ → Command → Demands → List Refusal
-rows d k c x =
+-- the table, where x is what the command demands: its rows above the last, and then all of it. BADCOMMAND here is "set of a
+-- read-only setting", which the line reader never gives: a device that is given one refuses it too.
+abbrev pub standingRows : Device → ℕ → Command → Demands → List Refusal
+standingRows d k c x =
     BADCOMMAND when x .barred
     ∷ BADAXIS when badAxis d k
     ∷ DEVICEONLY when deviceOnly k c
     ∷ NOACCESS when noAccess d x
     ∷ PARKED when parked d x
     ∷ STATUSBUSY when statusBusy d k x
-    ∷ BADDATA when badData d k c
     ∷ []
+
+abbrev pub rows : Device → ℕ → Command → Demands → List Refusal
+rows d k c x = standingRows d k c x ++ (BADDATA when badData d k c ∷ [])
 
 -- "Checks run in the table's order and the first that applies wins."
 unfoldable pub refusal : Device → ℕ → Command → ℕ

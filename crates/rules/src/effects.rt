@@ -2,14 +2,10 @@
 // A command changes the axes that it concerns, or the device itself.
 ghost use mathlib.Core.Path.{_≡_};
 ghost use Rattle.device.specs.Record.{withParked};
-ghost use Rattle.rules.specs.Effects.{deviceAfter, next as nextOf, obey as obeyOf};
-use crate::refusals::rule;
+ghost use Rattle.rules.specs.Effects.{deviceAfter, next as nextOf};
 use command::Command;
 use command::DeviceCommand;
 use device::Device;
-use device::Outcome;
-use device::walks::Change;
-use laws::ACCEPTED;
 
 fn with_parked(mut d: Device, parked: bool) -> Device
     ensures { λ r. ⌜ r ≡ withParked parked d ⌝ }
@@ -36,25 +32,7 @@ pub fn next(d: Device, k: u64, c: Command) -> Device
     ensures { λ r. ⌜ r ≡ nextOf d k c ⌝ }
 {
     match c {
-        Command::OfAxes(a) => d.change(k, Change::Obey(a)),
+        Command::OfAxes(a) => d.obeyed(k, a),
         Command::OfDevice(a) => after(d, a),
-    }
-}
-
-// The number of the refusal and the record as it was, or 0 and the next record.
-pub fn obey(d: Device, k: u64, c: Command) -> Outcome
-    ensures { λ r. ⌜ r ≡ obeyOf d k c ⌝ }
-{
-    let r = rule(d, k, c);
-    if r.number == 0 {
-        Outcome {
-            number: ACCEPTED,
-            next: next(d, k, c),
-        }
-    } else {
-        Outcome {
-            number: r.number,
-            next: d,
-        }
     }
 }

@@ -3,12 +3,12 @@
 ghost use mathlib.Core.Path.{_≡_};
 ghost use Rattle.laws.specs.Refusals.{firstOf};
 ghost use Rattle.command.specs.Commands.{demands};
-ghost use Rattle.rules.specs.Refusals.{badAxis, deviceOnly, noAccess, parked as parkedFor, statusBusy, deviceTakes, badData, rows, ruled};
+ghost use Rattle.rules.specs.Refusals.{badAxis, deviceOnly, noAccess, parked as parkedFor, statusBusy, deviceTakes, badData};
+ghost use Rattle.rules.specs.Refusals.{standingRows, rows, ruled};
 use command::Command;
 use command::DeviceCommand;
 use command::kinds::Demands;
 use device::Device;
-use device::walks::Test;
 use laws::ACCEPTED;
 use laws::BADAXIS;
 use laws::BADCOMMAND;
@@ -85,15 +85,14 @@ fn bad_data(d: Device, k: u64, c: Command) -> bool
     ensures { λ r. ⌜ r ≡ badData d k c ⌝ }
 {
     match c {
-        Command::OfAxes(a) => !d.each(k, Test::Permits(a)),
+        Command::OfAxes(a) => !d.permits(k, a),
         Command::OfDevice(a) => !device_takes(a),
     }
 }
 
-// The first row that applies; 10 BADCOMMAND is a set of a read-only setting.
-fn refusal(d: Device, k: u64, c: Command, x: Demands) -> u8
-    requires { ⌜ x ≡ demands c ⌝ }
-    ensures { λ r. ⌜ r ≡ firstOf (rows d k c x) ⌝ }
+// The first row that applies of those above 11 BADDATA; 10 BADCOMMAND is a set of a read-only setting.
+fn standing(d: Device, k: u64, c: Command, x: Demands) -> u8
+    ensures { λ r. ⌜ r ≡ firstOf (standingRows d k c x) ⌝ }
 {
     if x.barred {
         return BADCOMMAND;
@@ -112,6 +111,19 @@ fn refusal(d: Device, k: u64, c: Command, x: Demands) -> u8
     }
     if status_busy(d, k, x) {
         return STATUSBUSY;
+    }
+    ACCEPTED
+}
+
+// The first row that applies. `standing` is apart because the compiler holds a call behind so many returns for cold, and would
+// not inline the walk of `bad_data` there.
+fn refusal(d: Device, k: u64, c: Command, x: Demands) -> u8
+    requires { ⌜ x ≡ demands c ⌝ }
+    ensures { λ r. ⌜ r ≡ firstOf (rows d k c x) ⌝ }
+{
+    let n = standing(d, k, c, x);
+    if n != 0 {
+        return n;
     }
     // what only shows has no value, target, reference or range
     if x.shows {

@@ -7,7 +7,7 @@ use Rattle.rules.proofs.effects.next.Tie as tie
 
 returns : tie.Need-returns
 unfolding next
-returns c = simp (c .change .ensures, c .before .before .c .given .1)
+returns c = simp (c .obeyed .ensures, c .before .before .c .given .1)
 
 returns-2 : tie.Need-returns-2
 unfolding next

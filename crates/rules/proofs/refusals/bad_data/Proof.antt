@@ -7,7 +7,7 @@ use Rattle.rules.proofs.refusals.bad_data.Tie as tie
 
 returns : tie.Need-returns
 unfolding badData
-returns c = simp (c .each .ensures, c .before .before .c .given .1)
+returns c = simp (c .permits .ensures, c .before .before .c .given .1)
 
 returns-2 : tie.Need-returns-2
 unfolding badData

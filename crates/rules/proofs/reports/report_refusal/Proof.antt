@@ -2,7 +2,9 @@
 -- Assumes nothing.
 use mathlib.Core.Path.{sym, _∙_}
 use Rattle.laws.specs.Refusals.{firstOf}
+use Rattle.laws.proofs.Bools.{not-false}
 use Rattle.rules.specs.Reports.{reportRefusal}
+use Rattle.rules.proofs.GoodStays.{good-count}
 use borrow.Author.Needs.{needs}
 use Rattle.rules.proofs.reports.report_refusal.Statement.{statement}
 use Rattle.rules.proofs.reports.report_refusal.Tie as tie
@@ -10,6 +12,9 @@ use Rattle.rules.proofs.reports.report_refusal.Tie as tie
 returns : tie.Need-returns
 unfolding reportRefusal firstOf
 returns c = simp (simp (c .before .good2 .ensures) at (c .if1 .taken))
+
+bad-report-requires : tie.Need-bad-report-requires
+bad-report-requires c κs = good-count _ (not-false _ (simp (c .before .good2 .ensures) at (c .if1 .left)))
 
 returns-2 : tie.Need-returns-2
 unfolding reportRefusal firstOf
@@ -30,4 +35,4 @@ returns-3 c =
 pub report-refusal-spec : {M : Type 1} → statement M
 report-refusal-spec =
     tie.close
-    (tie.spec (λ c κs. search needs) returns (λ c κs. search needs) returns-2 returns-3)
+    (tie.spec (λ c κs. search needs) returns bad-report-requires returns-2 returns-3)

@@ -2,13 +2,13 @@
 -- Assumes nothing.
 use Rattle.device.specs.Record.{onAxes}
 use borrow.Author.Needs.{needs}
-use Rattle.device.proofs.Device.change.Statement.{statement}
-use Rattle.device.proofs.Device.change.Tie as tie
+use Rattle.device.proofs.Device.obeyed.Statement.{statement}
+use Rattle.device.proofs.Device.obeyed.Tie as tie
 
 returns : tie.Need-returns
 unfolding onAxes
 returns c = simp (c .change-each .ensures, c .before .many .ensures)
 
-pub change-spec : {M : Type 1} → statement M
-change-spec = tie.close
+pub obeyed-spec : {M : Type 1} → statement M
+obeyed-spec = tie.close
     (tie.spec (λ c κs. search needs) (λ c κs. search needs) returns)
