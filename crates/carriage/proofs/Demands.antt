@@ -14,10 +14,10 @@ use Rattle.laws.proofs.Bools.{not-false}
 use Rattle.laws.proofs.Refusals.{unmet, below}
 use Rattle.command.specs.declared.Command.{Command}
 use Rattle.phrase.specs.declared.WordsRead.the-variants as Words
-use Rattle.command.specs.Commands.{echoOf}
 use Rattle.line.specs.declared.LineRead.{LineRead}
 use Rattle.line.specs.declared.LineRead.the-variants.{Silent, Addressed}
-use Rattle.line.specs.Reading.{readLine, wordsOf}
+use Rattle.line.specs.Reading.{readLine}
+use Rattle.line.proofs.Carried.{Carried, carried-of}
 use Rattle.device.specs.declared.Device.{Device}
 use Rattle.device.specs.Good.{good}
 use Rattle.rules.specs.Refusals.{refusal}
@@ -62,50 +62,49 @@ module _ (d : Device) (r : LineRead) (b : List ℕ) (e : silence d r b ≡ 0) wh
 -- what holds of every number that the reader rejects a line's words with
 abbrev pub Rejects : (ℕ → Type 0) → LineRead → Type 0
 Rejects Q (Silent n) = Unit
-Rejects Q (Addressed n k skip (Words.Command c)) = Unit
-Rejects Q (Addressed n k skip (Words.Refused m)) = Q m
+Rejects Q (Addressed n k end (Words.Command c from)) = Unit
+Rejects Q (Addressed n k end (Words.Refused m)) = Q m
 
 -- what holds of the silence, of an answer that rejects and of one that accepts, holds of every answer; Q is what is known of the
 -- numbers that the reader and the device reject with
 module _ (P : Stepped → Type 0) (Q : ℕ → Type 0) (d : Device) (l b : List ℕ)
     (quiet : P (silent (silence d (readLine l) b) d b))
     (refused : (n k : ℕ) → Q n → good d ≡ true → P (rejected n d k b))
-    (done : (k skip : ℕ) (c : Command) → good d ≡ true → refusal d k c ≡ 0 → P (accepted d k (echoOf c (drop skip (wordsOf l))) c b))
+    (done : (k : ℕ) (c : Command) (es : List (List ℕ)) → good d ≡ true → refusal d k c ≡ 0 → Carried l c es → P (accepted d k es c b))
     (device : (k : ℕ) (c : Command) → (refusal d k c ≡ 0 → ⊥) → Q (refusal d k c)) where
-  obeys : (k skip : ℕ) (c : Command) → good d ≡ true → P (obeyed d k (echoOf c (drop skip (wordsOf l))) c b)
+  obeys : (k : ℕ) (c : Command) (es : List (List ℕ)) → good d ≡ true → Carried l c es → P (obeyed d k es c b)
   unfolding obeyed
-  obeys k skip c g = go (eqb (refusal d k c) 0) refl
+  obeys k c es g h = go (eqb (refusal d k c) 0) refl
     where
-      go : (t : Bool) → eqb (refusal d k c) 0 ≡ t
-          → P (cond t (accepted d k (echoOf c (drop skip (wordsOf l))) c b) (rejected (refusal d k c) d k b))
-      go true e = done k skip c g (eqb-true (refusal d k c) 0 e)
+      go : (t : Bool) → eqb (refusal d k c) 0 ≡ t → P (cond t (accepted d k es c b) (rejected (refusal d k c) d k b))
+      go true e = done k c es g (eqb-true (refusal d k c) 0 e) h
       go false e = refused (refusal d k c) k (device k c (eqb-false (refusal d k c) 0 e)) g
 
-  answers : (r : LineRead) → Rejects Q r → good d ≡ true → P (silent (unread r) d b) → P (answered d (wordsOf l) r b)
-  answers (Silent n) h g q = q
-  answers (Addressed n k skip (Words.Refused m)) h g q = refused m k h g
-  answers (Addressed n k skip (Words.Command c)) h g q = obeys k skip c g
+  answers : (r : LineRead) → readLine l ≡ r → Rejects Q r → good d ≡ true → P (silent (unread r) d b) → P (answered d l r b)
+  answers (Silent n) is h g q = q
+  answers (Addressed n k end (Words.Refused m)) is h g q = refused m k h g
+  answers (Addressed n k end (Words.Command c from)) is h g q = obeys k c _ g (carried-of l n k end from c is)
 
   pub each-answer : Rejects Q (readLine l) → P (step d l b)
   unfolding step respond
   each-answer h = go (eqb (silence d (readLine l) b) 0) refl
     where
       go : (t : Bool) → eqb (silence d (readLine l) b) 0 ≡ t
-          → P (cond t (answered d (wordsOf l) (readLine l) b) (silent (silence d (readLine l) b) d b))
+          → P (cond t (answered d l (readLine l) b) (silent (silence d (readLine l) b) d b))
       go true e =
           let z = eqb-true (silence d (readLine l) b) 0 e in
-          answers (readLine l) h (read-good d (readLine l) b z) (rw (read-number d (readLine l) b z, ← z) quiet)
+          answers (readLine l) refl h (read-good d (readLine l) b z) (rw (read-number d (readLine l) b z, ← z) quiet)
       go false e = quiet
 
 -- the same, whatever the numbers are
 any-number : (r : LineRead) → Rejects (λ n. Unit) r
 any-number (Silent n) = tt
-any-number (Addressed n k skip (Words.Command c)) = tt
-any-number (Addressed n k skip (Words.Refused m)) = tt
+any-number (Addressed n k end (Words.Command c from)) = tt
+any-number (Addressed n k end (Words.Refused m)) = tt
 
 pub every-answer : (P : Stepped → Type 0) (d : Device) (l b : List ℕ) → P (silent (silence d (readLine l) b) d b)
     → ((n k : ℕ) → good d ≡ true → P (rejected n d k b))
-    → ((k skip : ℕ) (c : Command) → good d ≡ true → refusal d k c ≡ 0 → P (accepted d k (echoOf c (drop skip (wordsOf l))) c b))
+    → ((k : ℕ) (c : Command) (es : List (List ℕ)) → good d ≡ true → refusal d k c ≡ 0 → Carried l c es → P (accepted d k es c b))
     → P (step d l b)
 every-answer P d l b quiet refused done = each-answer P (λ n. Unit) d l b quiet (λ n k u g. refused n k g) done (λ k c h. tt)
     (any-number (readLine l))
@@ -115,14 +114,14 @@ pub refusal-keeps-the-record : (d : Device) (l b : List ℕ) → (step d l b .an
 unfolding silent rejected accepted written
 refusal-keeps-the-record d l b =
     every-answer (λ s. (s .answer .number ≡ 0 → ⊥) → s .answer .next ≡ d) d l b (λ h. refl) (λ n k g h. refl)
-    (λ k skip c g e h. absurd (h refl))
+    (λ k c es g e w h. absurd (h refl))
 
 -- On a good record the next record is good.
 pub good-goes-on : (d : Device) (l b : List ℕ) → good d ≡ true → good (step d l b .answer .next) ≡ true
 unfolding silent rejected accepted written obey
 good-goes-on d l b g =
     every-answer (λ s. good (s .answer .next) ≡ true) d l b g (λ n k g. g)
-    (λ k skip c g e. ap good (sym (accepted-next d k c e)) ∙ good-stays d k c g)
+    (λ k c es g e w. ap good (sym (accepted-next d k c e)) ∙ good-stays d k c g)
 
 -- Bytes behind a reply keep their values, whatever was answered: the buffer is some text, and what stood behind it.
 pub record Behind (b : List ℕ) (s : Stepped) : Type 0 where
@@ -135,12 +134,7 @@ unfolding silent rejected accepted written
 keeps-behind d l b =
     every-answer (Behind b) d l b (record { text = []; long = refl; left = refl })
     (λ n k g. record { text = replyOf d k false (refusalName n); long = refl; left = refl })
-    (λ k skip c g e. record {
-      text = replyOf (next d k c) k true
-          (dataOf d k (echoOf c (drop skip (wordsOf l))) c);
-      long = refl;
-      left = refl;
-    })
+    (λ k c es g e w. record { text = replyOf (next d k c) k true (dataOf d k es c); long = refl; left = refl })
 
 -- "A reply describes the record after the command": what stands in the buffer is a reply of the next record, so that its address,
 -- its status, its highest warning and whether it has a sum are the next record's.
@@ -156,8 +150,8 @@ reply-describes-next d l b =
     every-answer (λ s. (s .answer .length ≡ 0 → ⊥) → Describes s) d l b (λ h. absurd (h refl))
     (λ n k g h. let t : List ℕ = replyOf d k false (refusalName n) in
     record { axis = k; ok = false; words = refusalName n; reply = take-at t (drop (length t) b) (length t) refl })
-    (λ k skip c g e h.
-    let shows : List ℕ = dataOf d k (echoOf c (drop skip (wordsOf l))) c in
+    (λ k c es g e w h.
+    let shows : List ℕ = dataOf d k es c in
     let t : List ℕ = replyOf (next d k c) k true shows in
     record { axis = k; ok = true; words = shows; reply = take-at t (drop (length t) b) (length t) refl })
 

@@ -58,6 +58,9 @@ use Rattle.view.specs.View.{valueIn, valuesOf, warningsOf}
 use Rattle.view.specs.declared.Value.{Value}
 use Rattle.view.specs.declared.Value.the-variants as Value
 use Rattle.words.specs.Cutting.{cut}
+use Rattle.line.proofs.Frames.{content-fits}
+use Rattle.line.proofs.Carried.{Carried}
+use Rattle.rules.proofs.GoodStays.{good-count}
 use Rattle.view.specs.Data.{settingData, parkedData, textOf, dataOf}
 
 -- what lies in a range of 32 bits takes 11 bytes at most
@@ -216,19 +219,24 @@ module _ (d : Device) (k : ℕ) (g : Good d) (few : d .count ≤ 4) (there : k �
       go false = omega arith
   text-fits ws h f Data.Words = h
 
--- the words that an echo carries
-echo-short : (c : Command) (s : List ℕ) (skip : ℕ) → length s ≤ 78 → length (echoed (echoOf c (drop skip (cut s)))) ≤ 74
+-- the words that an echo carries are of a content of 78 bytes at most
+echo-short : {es : List (List ℕ)} (c : Command) (l : List ℕ) → Carried l c es → length (echoed es) ≤ 74
 unfolding echoOf
-echo-short c s skip h = go (carriesWords c)
+echo-short c l h = rw (h .words) (go (carriesWords c))
   where
-    go : (t : Bool) → length (echoed (cond t (drop 2 (drop skip (cut s))) [])) ≤ 74
-    go true = echo-fits s skip h
+    s : List ℕ
+    s = take (h .size) (drop 1 l)
+
+    short : length s ≤ 78
+    short = rw length-take (omega (arith, content-fits l (h .size) refl (h .frame)))
+
+    go : (t : Bool) → length (echoed (cond t (drop 2 (drop (h .skip) (cut s))) [])) ≤ 74
+    go true = echo-fits s (h .skip) short
     go false = omega (arith, echoed-none)
 
-pub data-fits : (d : Device) (k : ℕ) (c : Command) (s : List ℕ) (skip : ℕ) → good d ≡ true → d .count ≤ 4 → refusal d k c ≡ 0
-    → length s ≤ 78
-    → length (dataOf d k (echoOf c (drop skip (cut s))) c) ≤ 74
+pub data-fits : (d : Device) (k : ℕ) (c : Command) (es : List (List ℕ)) (l : List ℕ) → good d ≡ true → refusal d k c ≡ 0 → Carried l c es
+    → length (dataOf d k es c) ≤ 74
 unfolding dataOf badAxis
-data-fits d k c s skip g few e h =
-    text-fits d k (goodness d g) few (ltb-false (d .count) k (within-count d k c e)) (echoOf c (drop skip (cut s))) (echo-short c s skip h)
-    (formOf c) (demands c .reply)
+data-fits d k c es l g e h =
+    text-fits d k (goodness d g) (good-count d g) (ltb-false (d .count) k (within-count d k c e)) es (echo-short c l h) (formOf c)
+    (demands c .reply)

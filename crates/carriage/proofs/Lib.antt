@@ -1,7 +1,9 @@
 pub mod Fits
 pub mod Replies
 pub mod Steps
+pub mod Heard
 pub mod Rulings
+pub mod Answers
 pub mod Demands
 pub mod Room
 pub mod Cases

@@ -2,28 +2,23 @@
 -- Assumes nothing.
 use mathlib.Core.Path.{_≡_, refl, ap, _∙_}
 use mathlib.Core.Logic.{⊎-elim}
-use mathlib.Core.Bool.{Bool, true, _&&_}
+use mathlib.Core.Bool.{Bool, true}
 use mathlib.Core.List.{List, _++_}
 use Prim.Native.Nat.{ℕ, _+_, _≤_, _<_}
 use native.Mathlib.Omega.{arith}
-use lib.IntN.{pos}
-use lib.Signed.{leZ}
 use lib.ListN.{length, take, drop}
-use borrow.Author.Tests.{le-leb, lt-leb, leb-true}
-use Rattle.laws.specs.Lists.{fold, all}
+use borrow.Author.Tests.{le-leb, lt-leb}
 use Rattle.laws.specs.Text.{text}
 use Rattle.laws.proofs.Order.{lt-or-le}
-use Rattle.laws.proofs.Bools.{and-left, and-right}
-use Rattle.command.specs.declared.DeviceSetting.the-variants.{CommAddress, CommAlert, CommChecksum, SystemAccess, DeviceId, SystemAxisCount}
 use Rattle.command.specs.declared.Command.{Command}
 use Rattle.command.specs.declared.Command.the-variants as Command
-use Rattle.command.specs.Settings.{deviceSettings}
 use Rattle.buffer.specs.Wrote.{Wrote}
 use Rattle.device.specs.declared.Device.{Device}
 use Rattle.device.specs.Record.{onAxes}
-use Rattle.device.specs.Good.{inRange, good}
+use Rattle.device.specs.Good.{good}
 use Rattle.rules.specs.Effects.{next}
 use Rattle.rules.proofs.BeyondCount.{after-keeps}
+use Rattle.rules.proofs.GoodStays.{good-count}
 use Rattle.reply.specs.declared.Head.{Head}
 use Rattle.reply.specs.Reply.{body, ending, reply}
 use Rattle.reply.proofs.Room.{reply-done}
@@ -32,20 +27,6 @@ use Rattle.carriage.specs.declared.Answer.{Answer}
 use Rattle.carriage.specs.declared.Heading.{Heading}
 use Rattle.carriage.specs.Rulings.{headingOf}
 use Rattle.carriage.specs.Step.{Replied, Gives, written, wantsSum, replyOf}
-
--- "system.axiscount ... 1 to 4"
-pub good-count : (d : Device) → good d ≡ true → d .count ≤ 4
-unfolding good fold deviceSettings
-good-count d h =
-    let all = and-left (inRange d CommAddress && (inRange d CommAlert &&
-    (inRange d CommChecksum && (inRange d SystemAccess && (inRange d DeviceId && (inRange d SystemAxisCount && true)))))) _ h in
-    let c1 = and-right (inRange d CommAddress) _ all in
-    let c2 = and-right (inRange d CommAlert) _ c1 in
-    let c3 = and-right (inRange d CommChecksum) _ c2 in
-    let c4 = and-right (inRange d SystemAccess) _ c3 in
-    let c5 = and-right (inRange d DeviceId) _ c4 in
-    let c6 = and-left (inRange d SystemAxisCount) true c5 in
-    leb-true (d .count) 4 (and-right (leZ (pos 1) (pos (d .count))) (leZ (pos (d .count)) (pos 4)) c6)
 
 -- the axis that a reply shows is one digit
 pub shown-digit : (d : Device) (k : ℕ) → d .count ≤ 4 → shownAxis d k < 10

@@ -8,17 +8,12 @@ use native.Mathlib.Omega.{arith}
 use lib.ListN.{length, take, drop, length-take}
 use Rattle.laws.proofs.Each.{none, more}
 use Rattle.laws.proofs.Refusals.{at-most}
-use Rattle.words.specs.Cutting.{cut}
 use Rattle.command.specs.declared.Command.{Command}
 use Rattle.phrase.specs.declared.WordsRead.the-variants as Words
-use Rattle.command.specs.Commands.{echoOf}
-use Rattle.line.specs.declared.Frame.{Frame}
-use Rattle.line.specs.declared.Frame.the-variants as Frame
 use Rattle.line.specs.declared.LineRead.{LineRead}
 use Rattle.line.specs.declared.LineRead.the-variants.{Silent, Addressed}
-use Rattle.line.specs.Reading.{frameOf, readLine, wordsOf, contentOf, numberOf}
+use Rattle.line.specs.Reading.{readLine, numberOf}
 use Rattle.line.specs.Refusals.{refusalOf}
-use Rattle.line.proofs.Frames.{content-fits}
 use Rattle.line.proofs.Refused.{line-refused}
 use Rattle.device.specs.declared.Device.{Device}
 use Rattle.rules.specs.Effects.{next}
@@ -29,27 +24,9 @@ use Rattle.view.specs.View.{headOf}
 use Rattle.view.specs.Data.{dataOf}
 use Rattle.carriage.specs.Step.{silent, written, wantsSum, replyOf, rejected, accepted, unread, silence, step}
 use Rattle.carriage.proofs.Fits.{data-fits}
-use Rattle.carriage.proofs.Replies.{good-count, shown-digit, next-count}
+use Rattle.rules.proofs.GoodStays.{good-count}
+use Rattle.carriage.proofs.Replies.{shown-digit, next-count}
 use Rattle.carriage.proofs.Demands.{every-answer}
-
--- the words of a line are those of a content of 78 bytes at most
-pub record Content (ws : List (List ℕ)) : Type 0 where
-  pub bytes : List ℕ
-  pub cuts : ws ≡ cut bytes
-  pub short : length bytes ≤ 78
-
-pub content-of : (l : List ℕ) → Content (wordsOf l)
-unfolding wordsOf cut
-content-of l = go (frameOf l) refl
-  where
-    go : (f : Frame) → frameOf l ≡ f → Content (contentOf l f)
-    go (Frame.Refused n) q = record { bytes = []; cuts = refl; short = omega arith }
-    go (Frame.Content n) q = record {
-      bytes = take n (drop 1 l);
-      cuts = refl;
-      short =
-          rw length-take (omega (arith, content-fits l n refl q));
-    }
 
 reply-short : (d : Device) (k : ℕ) (ok : Bool) (words : List ℕ) → d .count ≤ 4 → length words ≤ 74 → length (replyOf d k ok words) ≤ 96
 unfolding replyOf headOf
@@ -60,17 +37,15 @@ unfolding silent rejected accepted written
 reply-at-most-96 d l b =
     every-answer (λ s. s .answer .length ≤ 96) d l b (omega arith)
     (λ n k g. reply-short d k false (refusalName n) (good-count d g) (omega (arith, refusal-length n)))
-    (λ k skip c g e.
-    let s = content-of l in
+    (λ k c es g e w.
     let few : next d k c .count ≤ 4 = rw (next-count d k c) (good-count d g) in
-    reply-short (next d k c) k true (dataOf d k (echoOf c (drop skip (wordsOf l))) c) few
-    (rw (s .cuts) (data-fits d k c (s .bytes) skip g (good-count d g) e (s .short))))
+    reply-short (next d k c) k true (dataOf d k es c) few (data-fits d k c es l g e w))
 
 -- ---- the numbers of silence
 unread-small : (r : LineRead) → unread r ≤ numberOf r
 unread-small (Silent n) = omega arith
-unread-small (Addressed n k skip (Words.Refused m)) = omega arith
-unread-small (Addressed n k skip (Words.Command c)) = omega arith
+unread-small (Addressed n k end (Words.Refused m)) = omega arith
+unread-small (Addressed n k end (Words.Command c from)) = omega arith
 
 line-small : (l : List ℕ) → refusalOf l ≤ 11
 unfolding refusalOf

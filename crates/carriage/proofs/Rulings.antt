@@ -4,118 +4,159 @@ use mathlib.Core.Path.{_≡_, refl, sym, ap, subst, _∙_}
 use mathlib.Core.Bool.{Bool, true, false, cond}
 use mathlib.Core.List.{List}
 use Prim.Native.Nat.{ℕ, _≤_}
-use lib.Dec.{eqb}
-use lib.ListN.{length, drop}
-use borrow.Author.Tests.{eq-eqb, eqb-true, ne-eqb}
+use lib.Dec.{eqb, ltb}
+use lib.ListN.{length, take, drop}
+use borrow.Author.Tests.{eq-eqb, eqb-true, ne-eqb, ltb-true, ltb-false}
+use Rattle.laws.proofs.Bools.{not-true, clash}
+use Rattle.units.specs.Units.{place}
+use Rattle.words.specs.Cutting.{cut, headWord, tailWords, pastMany}
 use Rattle.command.specs.declared.Command.{Command}
 use Rattle.command.specs.declared.kinds.Demands.{Demands}
-use Rattle.command.specs.Commands.{demands, echoOf}
+use Rattle.command.specs.Commands.{demands}
 use Rattle.phrase.specs.declared.WordsRead.{WordsRead}
 use Rattle.phrase.specs.declared.WordsRead.the-variants as Words
+use Rattle.phrase.specs.Reading.{readCommand}
 use Rattle.line.specs.declared.LineRead.{LineRead}
 use Rattle.line.specs.declared.LineRead.the-variants as Line
-use Rattle.line.specs.Reading.{readWords}
+use Rattle.line.specs.declared.Opening.{Opening}
+use Rattle.line.specs.declared.Opening.the-variants as Opening
+use Rattle.line.specs.Reading.{axisDigit, axisOf, readLine, carriedBy}
+use Rattle.line.specs.Opening.{openLine, readOn}
+use Rattle.line.proofs.Opened.{opened-read}
+use Rattle.line.proofs.Carried.{Carried, carried-of}
 use Rattle.device.specs.declared.Device.{Device}
 use Rattle.device.specs.Good.{good}
 use Rattle.rules.specs.declared.refusals.Ruled.{Ruled}
 use Rattle.rules.specs.Refusals.{refusal, ruled}
-use Rattle.rules.specs.Effects.{next}
-use Rattle.reply.specs.Data.{refusalName}
-use Rattle.reply.specs.Reply.{reply}
-use Rattle.view.specs.Data.{dataOf}
-use Rattle.carriage.specs.declared.Answer.{Answer}
-use Rattle.carriage.specs.declared.Heading.{Heading}
 use Rattle.carriage.specs.declared.Ruling.{Ruling}
 use Rattle.carriage.specs.declared.Ruling.the-variants.{Silent, Rejected, Accepted}
-use Rattle.carriage.specs.Step.{Stepped, Replied, Gives, silent, rejected, accepted, obeyed, concerns, addressed, respond}
-use Rattle.carriage.specs.Rulings.{headingOf, ruleWords, rule}
-use Rattle.carriage.proofs.Steps.{gives-as, silent-gives, respond-silent, respond-mine, respond-other, skip-few}
-use Rattle.carriage.proofs.Replies.{reply-gives}
+use Rattle.carriage.specs.Step.{Stepped, silent, rejected, accepted, obeyed, concerns, respond, step}
+use Rattle.carriage.specs.Rulings.{foreign, heardOn, heard, ruleWords, rule}
+use Rattle.carriage.proofs.Steps.{respond-silent, respond-mine, respond-other, step-small, step-bad}
 
-module _ (d : Device) (ws : List (List ℕ)) (b : List ℕ) where
+module _ (d : Device) (l b : List ℕ) where
   abbrev pub answering : Ruling → Stepped
   answering (Silent n) = silent n d b
   answering (Rejected k n) = rejected n d k b
-  answering (Accepted k skip c x) = accepted d k (echoOf c (drop skip ws)) c b
+  answering (Accepted k from end c x) = accepted d k (carriedBy c (drop from (take end l))) c b
 
-  words-answered : (k skip : ℕ) (w : WordsRead) → answering (ruleWords d k skip w) ≡ addressed d ws k skip w b
-  unfolding obeyed
-  words-answered k skip (Words.Refused n) = refl
-  words-answered k skip (Words.Command c) = go (eqb (refusal d k c) 0)
-    where
-      go : (t : Bool) → answering (cond t (Accepted k skip c (demands c)) (Rejected k (refusal d k c))) ≡ cond t
-          (accepted d k (echoOf c (drop skip ws)) c b) (rejected (refusal d k c) d k b)
-      go true = refl
-      go false = refl
+  -- a command that is accepted meets no refusal, and carries words of the line
+  pub record Sound (k : ℕ) (c : Command) (x : Demands) (es : List (List ℕ)) : Type 0 where
+    pub room : 96 ≤ length b
+    pub good : good d ≡ true
+    pub refused : refusal d k c ≡ 0
+    pub demanded : x ≡ demands c
+    pub carried : Carried l c es
+
+  abbrev pub Fair : Ruling → Type 0
+  Fair (Silent n) = Unit
+  Fair (Rejected k n) = (96 ≤ length b) × (good d ≡ true)
+  Fair (Accepted k from end c x) = Sound k c x (carriedBy c (drop from (take end l)))
+
+  pub record Comes (x : Ruling) : Type 0 where
+    pub answers : answering x ≡ step d l b
+    pub fair : Fair x
 
   module _ (room : 96 ≤ length b) (g : good d ≡ true) where
-    answered : (r : LineRead) → answering (rule d r) ≡ respond d ws r b
-    answered (Line.Silent n) = respond-silent d ws b room g n
-    answered (Line.Addressed a k skip w) = go (concerns d a) refl
+    module _ (a k end : ℕ) (h : concerns d a ≡ true) where
+      command-comes : (c : Command) (from : ℕ) → readLine l ≡ Line.Addressed a k end (Words.Command c from)
+          → Comes (ruleWords d k end (Words.Command c from))
+      unfolding step obeyed
+      command-comes c from q = go (eqb (refusal d k c) 0) refl
+        where
+          es : List (List ℕ)
+          es = carriedBy c (drop from (take end l))
+
+          whole : obeyed d k es c b ≡ step d l b
+          whole = respond-mine d l b room g a k end (Words.Command c from) h ∙ ap (λ (r : LineRead). respond d l r b) (sym q)
+
+          go : (t : Bool) → eqb (refusal d k c) 0 ≡ t
+              → Comes (cond t (Accepted k from end c (demands c)) (Rejected k (refusal d k c)))
+          go true e = record {
+            answers = ap (λ (t : Bool). cond t (accepted d k es c b) (rejected (refusal d k c) d k b)) (sym e) ∙ whole;
+            fair = record {
+              room = room;
+              good = g;
+              refused = eqb-true (refusal d k c) 0 e;
+              demanded = refl;
+              carried = carried-of l a k end from c q;
+            };
+          }
+          go false e = record {
+            answers = ap (λ (t : Bool). cond t (accepted d k es c b) (rejected (refusal d k c) d k b)) (sym e) ∙ whole;
+            fair = (room, g);
+          }
+
+      words-come : (w : WordsRead) → readLine l ≡ Line.Addressed a k end w → Comes (ruleWords d k end w)
+      unfolding step
+      words-come (Words.Command c from) q = command-comes c from q
+      words-come (Words.Refused m) q = record {
+        answers = respond-mine d l b room g a k end (Words.Refused m) h ∙ ap (λ (r : LineRead). respond d l r b) (sym q);
+        fair = (room, g);
+      }
+
+    read-comes : (r : LineRead) → readLine l ≡ r → Comes (rule d r)
+    unfolding step
+    read-comes (Line.Silent n) q = record { answers = respond-silent d l b room g n ∙ ap (λ (r : LineRead). respond d l r b) (sym q); fair = tt }
+    read-comes (Line.Addressed a k end w) q = go (concerns d a) refl
       where
-        go : (t : Bool) → concerns d a ≡ t → answering (cond t (ruleWords d k skip w) (Silent 5)) ≡ respond d ws
-            (Line.Addressed a k skip w) b
-        go true e = words-answered k skip w ∙ respond-mine d ws b room g a k skip w e
-        go false e = respond-other d ws b room g a k skip w e
+        go : (t : Bool) → concerns d a ≡ t → Comes (cond t (ruleWords d k end w) (Silent 5))
+        go true e = words-come a k end e w q
+        go false e = record {
+          answers = respond-other d l b room g a k end w e ∙ ap (λ (r : LineRead). respond d l r b) (sym q);
+          fair = tt;
+        }
 
-    answered-as : {x y : Ruling} → x ≡ rule d (readWords ws) → x ≡ y → answering y ≡ respond d ws (readWords ws) b
-    answered-as q e = ap answering (sym e ∙ q) ∙ answered (readWords ws)
+    -- a line that is read no further than a foreign address
+    foreign-silent : (o : Opening) → foreign (place (d .comm .address .0)) o ≡ true → silent 5 d b ≡ respond d l (readOn l o) b
+    unfolding concerns axisOf
+    foreign-silent (Opening.Silent n) e = clash e refl
+    foreign-silent (Opening.Bare end) e = clash e refl
+    foreign-silent (Opening.To a at end) e = go (ltb (axisDigit (headWord ws)) 10)
+      where
+        s : List ℕ
+        s = take end l
 
-    -- the three ways to carry a ruling out
-    module _ {x : Ruling} (ruled : x ≡ rule d (readWords ws)) where
-      pub carried-silent : (n : ℕ) → x ≡ Silent n → {a : Answer} → a ≡ record { number = n; length = 0; next = d }
-          → Gives (respond d ws (readWords ws) b) a b
-      carried-silent n e p = gives-as (answered-as ruled e) (silent-gives n d b p)
+        ws : List (List ℕ)
+        ws = cut (drop at s)
 
-      pub carried-rejected : (k n : ℕ) → x ≡ Rejected k n → {h : Heading} → h ≡ headingOf d k false
-          → {r : ℕ} {f : List ℕ} → Replied (reply (h .head) (h .sum) (refusalName n)) b r f
-          → {a : Answer} → a ≡ record { number = n; length = r; next = d } → Gives (respond d ws (readWords ws) b) a f
-      unfolding rejected
-      carried-rejected k n e p w q = gives-as (answered-as ruled e) (reply-gives n d k false (refusalName n) (rw p at w) q)
+        other : concerns d a ≡ false
+        other = not-true _ e
 
-      pub carried-accepted : (k skip : ℕ) (c : Command) (y : Demands) → x ≡ Accepted k skip c y → {after : Device} → after ≡ next d k c
-          → {h : Heading} → h ≡ headingOf after k true
-          → {r : ℕ} {f : List ℕ} → Replied (reply (h .head) (h .sum) (dataOf d k (echoOf c (drop skip ws)) c)) b r f
-          → {a : Answer} → a ≡ record { number = 0; length = r; next = after } → Gives (respond d ws (readWords ws) b) a f
-      unfolding accepted
-      carried-accepted k skip c y e m p w q =
-          gives-as (answered-as ruled e) (reply-gives 0 (next d k c) k true (dataOf d k (echoOf c (drop skip ws)) c) (rw (p, m) at w)
-          (rw m at q))
+        go : (t : Bool) → silent 5 d b ≡ respond d l (cond t
+            (Line.Addressed a (axisDigit (headWord ws)) (length s) (readCommand (pastMany s at 3) (tailWords ws)))
+            (Line.Addressed a 0 (length s) (readCommand (pastMany s at 2) ws))) b
+        go true = respond-other d l b room g a _ (length s) _ other
+        go false = respond-other d l b room g a 0 (length s) _ other
 
-module _ (d : Device) where
-  abbrev pub Sound : Ruling → Type 0
-  Sound (Silent n) = _≡_ {A = ℕ} 0 0
-  Sound (Rejected k n) = _≡_ {A = ℕ} 0 0
-  Sound (Accepted k skip c x) = (refusal d k c ≡ 0) × (skip ≤ 2) × (x ≡ demands c)
+    heard-comes : (o : Opening) → readOn l o ≡ readLine l → Comes (rule d (heardOn (place (d .comm .address .0)) l o))
+    unfolding step
+    heard-comes o q = go (foreign (place (d .comm .address .0)) o) refl
+      where
+        go : (t : Bool) → foreign (place (d .comm .address .0)) o ≡ t → Comes (rule d (cond t (Line.Silent 5) (readOn l o)))
+        go true e = record { answers = foreign-silent o e ∙ ap (λ (r : LineRead). respond d l r b) q; fair = tt }
+        go false e = read-comes (readOn l o) (sym q)
 
-  words-sound : (k skip : ℕ) (w : WordsRead) → skip ≤ 2 → Sound (ruleWords d k skip w)
-  words-sound k skip (Words.Refused n) few = refl
-  words-sound k skip (Words.Command c) few = go (eqb (refusal d k c) 0) refl
+  -- what is heard of a line comes to its answer
+  pub comes : Comes (rule d (heard (place (d .comm .address .0)) (good d) l (length b)))
+  comes = small (ltb (length b) 96) refl
     where
-      go : (t : Bool) → eqb (refusal d k c) 0 ≡ t → Sound (cond t (Accepted k skip c (demands c)) (Rejected k (refusal d k c)))
-      go true e = (eqb-true (refusal d k c) 0 e, few, refl)
-      go false e = refl
+      bad : 96 ≤ length b → (t : Bool) → good d ≡ t
+          → Comes (rule d (cond t (heardOn (place (d .comm .address .0)) l (openLine l)) (Line.Silent 21)))
+      bad room true g = heard-comes room g (openLine l) (opened-read l)
+      bad room false g = record { answers = step-bad d l b room g; fair = tt }
 
-  read-sound : (ws : List (List ℕ)) (r : LineRead) → r ≡ readWords ws → Sound (rule d r)
-  read-sound ws (Line.Silent n) q = refl
-  read-sound ws (Line.Addressed a k skip w) q = go (concerns d a)
-    where
-      go : (t : Bool) → Sound (cond t (ruleWords d k skip w) (Silent 5))
-      go true = words-sound k skip w (skip-few ws a k skip w q refl)
-      go false = refl
-
-  -- a command that is accepted meets no refusal, and two words at most stand before its own
-  pub sound : {x y : Ruling} (ws : List (List ℕ)) → x ≡ rule d (readWords ws) → x ≡ y → Sound y
-  sound ws q e = subst Sound (sym q ∙ e) (read-sound ws (readWords ws) refl)
+      small : (t : Bool) → ltb (length b) 96 ≡ t → Comes (rule d (cond t (Line.Silent 20)
+          (cond (good d) (heardOn (place (d .comm .address .0)) l (openLine l)) (Line.Silent 21))))
+      small true e = record { answers = step-small d l b (ltb-true (length b) 96 e); fair = tt }
+      small false e = bad (ltb-false (length b) 96 e) (good d) refl
 
 -- the reader's command, where it meets no refusal, and where it meets one
-module _ (d : Device) (k skip : ℕ) (c : Command) {w : WordsRead} (e : w ≡ Words.Command c) where
-  pub ruled-accepted : {x : Ruled} → x ≡ ruled d k c → x .number ≡ 0 → Accepted k skip c (x .demands) ≡ ruleWords d k skip w
+module _ (d : Device) (k end from : ℕ) (c : Command) {w : WordsRead} (e : w ≡ Words.Command c from) where
+  pub ruled-accepted : {x : Ruled} → x ≡ ruled d k c → x .number ≡ 0 → Accepted k from end c (x .demands) ≡ ruleWords d k end w
   ruled-accepted q h =
-      rw (e, eq-eqb (refusal d k c) 0 (sym (ap (λ (y : Ruled). y .number) q) ∙ h)) (ap (λ (y : Ruled). Accepted k skip c (y .demands)) q)
+      rw (e, eq-eqb (refusal d k c) 0 (sym (ap (λ (y : Ruled). y .number) q) ∙ h))
+      (ap (λ (y : Ruled). Accepted k from end c (y .demands)) q)
 
-  pub ruled-rejected : {x : Ruled} → x ≡ ruled d k c → (x .number ≡ 0 → ⊥) → Rejected k (x .number) ≡ ruleWords d k skip w
+  pub ruled-rejected : {x : Ruled} → x ≡ ruled d k c → (x .number ≡ 0 → ⊥) → Rejected k (x .number) ≡ ruleWords d k end w
   ruled-rejected {x} q h = let p = ap (λ (y : Ruled). y .number) q in rw (e, ← p, ne-eqb (x .number) 0 h)
-
-pub ruled-as : {x : Ruling} {r : LineRead} (d : Device) (ws : List (List ℕ)) → x ≡ rule d r → r ≡ readWords ws → x ≡ rule d (readWords ws)
-ruled-as d ws q e = q ∙ ap (rule d) e

@@ -1,31 +1,51 @@
--- What a line comes to for a record before anything is written: silence, a rejection, or a command that meets no refusal.
+-- A line on its way to an answer, before anything is written: what the device hears of it, and what that comes to for the record.
 -- The inner functions promise it; proofs/Rulings.antt shows that it is answered as Step.antt says.
-use mathlib.Core.Bool.{Bool, cond}
+use mathlib.Core.Bool.{Bool, false, cond, not, _||_}
+use mathlib.Core.List.{List}
 use Prim.Native.Nat.{ℕ}
-use lib.Dec.{eqb}
-use Rattle.laws.specs.Refusals.{NOTMINE}
+use lib.Dec.{eqb, ltb}
+use Rattle.laws.specs.Refusals.{NOROOM, BADSTATE, NOTMINE}
 use Rattle.command.specs.Commands.{demands}
 use Rattle.phrase.specs.declared.WordsRead.{WordsRead}
 use Rattle.phrase.specs.declared.WordsRead.the-variants as Words
+use Rattle.line.specs.declared.Opening.{Opening}
+use Rattle.line.specs.declared.Opening.the-variants as Opening
 use Rattle.line.specs.declared.LineRead.{LineRead}
 use Rattle.line.specs.declared.LineRead.the-variants as Line
+use Rattle.line.specs.Opening.{openLine, readOn}
 use Rattle.device.specs.declared.Device.{Device}
 use Rattle.rules.specs.Refusals.{refusal}
+use Rattle.reply.specs.Reply.{longestReply}
 use Rattle.view.specs.View.{headOf}
 use Rattle.carriage.specs.declared.Heading.{Heading}
 use Rattle.carriage.specs.declared.Ruling.{Ruling}
 use Rattle.carriage.specs.declared.Ruling.the-variants.{Silent, Rejected, Accepted}
 use Rattle.carriage.specs.Step.{concerns, wantsSum}
 
+-- an address that is neither 0 nor the device's own
+abbrev pub foreign : ℕ → Opening → Bool
+foreign own (Opening.Silent n) = false
+foreign own (Opening.Bare end) = false
+foreign own (Opening.To a at end) = not (eqb a 0 || eqb a own)
+
+-- a line of which no more is read than its address, where that is foreign
+abbrev pub heardOn : ℕ → List ℕ → Opening → LineRead
+heardOn own l o = cond (foreign own o) (Line.Silent NOTMINE) (readOn l o)
+
+-- what a device of this address hears of the line l: nothing but 20 or 21 where there is no room for a reply, or its record is not good
+abbrev pub heard : ℕ → Bool → List ℕ → ℕ → LineRead
+heard own good l room = cond (ltb room longestReply) (Line.Silent NOROOM) (cond good (heardOn own l (openLine l)) (Line.Silent BADSTATE))
+
 -- the reader's 10 or 11, or the first refusal that its command meets, or none
 abbrev pub ruleWords : Device → ℕ → ℕ → WordsRead → Ruling
-ruleWords d k skip (Words.Refused n) = Rejected k n
-ruleWords d k skip (Words.Command c) = cond (eqb (refusal d k c) 0) (Accepted k skip c (demands c)) (Rejected k (refusal d k c))
+ruleWords d k end (Words.Refused n) = Rejected k n
+ruleWords d k end (Words.Command c from) =
+    cond (eqb (refusal d k c) 0) (Accepted k from end c (demands c)) (Rejected k (refusal d k c))
 
--- the reader's 4; or 5 where the line does not concern the device; or what its words come to
+-- the reader's silence; or 5 where the line does not concern the device; or what its words come to
 abbrev pub rule : Device → LineRead → Ruling
 rule d (Line.Silent n) = Silent n
-rule d (Line.Addressed a k skip w) = cond (concerns d a) (ruleWords d k skip w) (Silent NOTMINE)
+rule d (Line.Addressed a k end w) = cond (concerns d a) (ruleWords d k end w) (Silent NOTMINE)
 
 -- what a reply has of its record besides the data
 abbrev pub headingOf : Device → ℕ → Bool → Heading

@@ -5,16 +5,15 @@ use mathlib.Core.Bool.{Bool, true, false, cond, not, _||_}
 use mathlib.Core.List.{List, [], _∷_, _++_}
 use Prim.Native.Nat.{ℕ}
 use lib.Dec.{eqb, ltb}
-use lib.ListN.{length, drop}
+use lib.ListN.{length, take, drop}
 use Rattle.laws.specs.Refusals.{_when_, firstOf, NOROOM, BADSTATE, NOTMINE}
 use Rattle.units.specs.Units.{place}
 use Rattle.command.specs.declared.Command.{Command}
-use Rattle.command.specs.Commands.{echoOf}
 use Rattle.phrase.specs.declared.WordsRead.{WordsRead}
 use Rattle.phrase.specs.declared.WordsRead.the-variants as Words
 use Rattle.line.specs.declared.LineRead.{LineRead}
 use Rattle.line.specs.declared.LineRead.the-variants.{Silent, Addressed}
-use Rattle.line.specs.Reading.{readLine, wordsOf}
+use Rattle.line.specs.Reading.{readLine, carriedBy}
 use Rattle.device.specs.declared.Device.{Device}
 use Rattle.device.specs.Good.{good}
 use Rattle.rules.specs.Refusals.{refusal}
@@ -69,11 +68,11 @@ concerns d n = eqb n 0 || eqb n (place (d .comm .address .0))
 -- the silent refusals of what was read: the reader's 2, 1, 3 or 4; and 5
 abbrev pub unread : LineRead → ℕ
 unread (Silent n) = n
-unread (Addressed n k skip w) = 0
+unread (Addressed n k end w) = 0
 
 abbrev pub notMine : Device → LineRead → Bool
 notMine d (Silent n) = false
-notMine d (Addressed n k skip w) = not (concerns d n)
+notMine d (Addressed n k end w) = not (concerns d n)
 
 -- "Checks run in the table's order and the first that applies wins."
 unfoldable pub silence : Device → LineRead → List ℕ → ℕ
@@ -85,22 +84,23 @@ silence d r b =
     ∷ NOTMINE when notMine d r
     ∷ [])
 
--- the reader's 10 or 11, or its command, whose own words stand behind `skip` others of the line's words ws
-abbrev pub addressed : Device → List (List ℕ) → ℕ → ℕ → WordsRead → List ℕ → Stepped
-addressed d ws k skip (Words.Refused m) b = rejected m d k b
-addressed d ws k skip (Words.Command c) b = obeyed d k (echoOf c (drop skip ws)) c b
+-- the reader's 10 or 11; or its command, and the words that it carries, which stand in the line l from a place up to another
+abbrev pub addressed : Device → List ℕ → ℕ → ℕ → WordsRead → List ℕ → Stepped
+addressed d l k end (Words.Refused m) b = rejected m d k b
+addressed d l k end (Words.Command c from) b = obeyed d k (carriedBy c (drop from (take end l))) c b
 
 -- what is not met with silence
-abbrev pub answered : Device → List (List ℕ) → LineRead → List ℕ → Stepped
-answered d ws (Silent n) b = silent n d b
-answered d ws (Addressed n k skip w) b = addressed d ws k skip w b
+abbrev pub answered : Device → List ℕ → LineRead → List ℕ → Stepped
+answered d l (Silent n) b = silent n d b
+answered d l (Addressed n k end w) b = addressed d l k end w b
 
-unfoldable pub respond : Device → List (List ℕ) → LineRead → List ℕ → Stepped
-respond d ws r b = cond (eqb (silence d r b) 0) (answered d ws r b) (silent (silence d r b) d b)
+-- what was read, whatever line it was read from
+unfoldable pub respond : Device → List ℕ → LineRead → List ℕ → Stepped
+respond d l r b = cond (eqb (silence d r b) 0) (answered d l r b) (silent (silence d r b) d b)
 
--- the device, a line's bytes and the lent buffer
+-- the device, a line's bytes and the lent buffer: the line is read, ruled and answered
 unfoldable pub step : Device → List ℕ → List ℕ → Stepped
-step d l b = respond d (wordsOf l) (readLine l) b
+step d l b = respond d l (readLine l) b
 
 -- a result and a buffer that are just what a step makes
 pub record Gives (s : Stepped) (r : Answer) (c : List ℕ) : Type 0 where

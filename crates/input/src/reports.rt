@@ -1,11 +1,14 @@
 // Reads the line of a motor report: `R axis kind p`, with spaces and numbers as in a command line.
 // specs/ReportLines.antt says which lines are misspelt.
 ghost use mathlib.Core.Path.{_≡_};
-ghost use Rattle.words.specs.Cutting.{cut};
+ghost use lib.ListN.{drop};
+ghost use Rattle.numbers.specs.Reading.{readNumber};
+ghost use Rattle.words.specs.Cutting.{cut, headWord, tailWords};
 ghost use Rattle.input.specs.ReportLines.{numbersOf, reportWords, framed as framedOf, readReport};
 use line::LONGEST_LINE;
 use numbers::NumberRead;
 use units::Number;
+use words::Word;
 
 // What a line is as a motor report: its three numbers, or no report.
 pub enum ReportRead {
@@ -29,25 +32,42 @@ fn numbers(axis: NumberRead, kind: NumberRead, last: NumberRead) -> ReportRead
     }
 }
 
+// A word as a number, and the place behind it.
+struct NumberAt {
+    number: NumberRead,
+    end: usize,
+}
+
+// The first word from at on as a number: the words from behind it on are the others.
+fn number_at(s: &[u8], at: usize) -> NumberAt
+    ensures number { λ r. ⌜ r .number ≡ readNumber (headWord (cut (drop at (now (s .entry))))) ⌝ }
+    ensures others { λ r. ⌜ cut (drop (r .end) (now (s .entry))) ≡ tailWords (cut (drop at (now (s .entry)))) ⌝ }
+{
+    let Word { start, end } = words::word_at(s, at);
+    NumberAt {
+        number: numbers::reading::read_number(&s[start..end]),
+        end,
+    }
+}
+
 // The words of a report.
 fn report_words(s: &[u8]) -> ReportRead
     ensures { λ r. ⌜ r ≡ reportWords (cut (now (s .entry))) ⌝ }
 {
-    let axis = words::past_word(s, 0);
-    let kind = words::past_word(s, axis);
-    let last = words::past_word(s, kind);
-    let end = words::past_word(s, last);
-    if words::first_word(s, end).len() != 0 {
+    let Word { start, end } = words::word_at(s, 0);
+    if !words::same_bytes(&s[start..end], b"R") {
         return ReportRead::Misspelt;
     }
-    if !words::same_bytes(words::first_word(s, 0), b"R") {
+    let axis = number_at(s, end);
+    let kind = number_at(s, axis.end);
+    let last = number_at(s, kind.end);
+    if words::start_of(s, last.end) < s.len() {
         return ReportRead::Misspelt;
     }
-    numbers(
-        numbers::reading::read_number(words::first_word(s, axis)),
-        numbers::reading::read_number(words::first_word(s, kind)),
-        numbers::reading::read_number(words::first_word(s, last)),
-    )
+    let a = axis.number;
+    let k = kind.number;
+    let n = last.number;
+    numbers(a, k, n)
 }
 
 // A line of any length: what stands before its footer.

@@ -1,5 +1,7 @@
 pub mod Frames
 pub mod Steps
+pub mod Opened
+pub mod Carried
 pub mod Composed
 pub mod Demand3
 pub mod Cases

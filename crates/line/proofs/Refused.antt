@@ -4,7 +4,7 @@ use mathlib.Core.Path.{_≡_, refl, ap, _∙_}
 use mathlib.Core.Logic.{⊎-elim}
 use mathlib.Core.Bool.{Bool, true, false}
 use mathlib.Core.List.{List, [], _∷_, _++_}
-use Prim.Native.Nat.{ℕ, _≤_, _<_}
+use Prim.Native.Nat.{ℕ, suc, _≤_, _<_}
 use lib.Dec.{ltb}
 use lib.ListN.{length, getD, take, drop}
 use lib.Seq.{take-append-le}
@@ -16,7 +16,7 @@ use Rattle.laws.proofs.Passes.{Passes}
 use Rattle.numbers.specs.Reading.{readAddress}
 use Rattle.numbers.specs.declared.UnsignedRead.{UnsignedRead}
 use Rattle.numbers.specs.declared.UnsignedRead.the-variants as Unsigned
-use Rattle.words.specs.Cutting.{cut, headWord, tailWords}
+use Rattle.words.specs.Cutting.{cut, headWord, tailWords, pastMany}
 use Rattle.phrase.specs.Reading.{readCommand}
 use Rattle.phrase.specs.Refusals.{badCommand, badData, wordsNumber, wordsRefusal}
 use Rattle.phrase.specs.declared.WordsRead.{WordsRead}
@@ -29,43 +29,52 @@ use Rattle.line.specs.declared.Frame.{Frame}
 use Rattle.line.specs.declared.Frame.the-variants as Frame
 use Rattle.line.specs.declared.LineRead.{LineRead}
 use Rattle.line.specs.declared.LineRead.the-variants.{Addressed}
+use Rattle.line.specs.declared.Opening.{Opening}
+use Rattle.line.specs.Opening.{openLine, readOn}
 use Rattle.line.proofs.Frames.{too-long, no-slash, slash-first}
-use Rattle.line.proofs.Steps.{starts-none}
+use Rattle.line.proofs.Steps.{starts-none, behind-slash}
+use Rattle.line.proofs.Opened.{opened-read}
 use Rattle.line.proofs.Composed.{slash-cons}
 use Rattle.line.proofs.Ends.{body-is, is-line, Split, split}
 use Rattle.line.proofs.Sums.{Sums, bad, good, sums}
 use Rattle.line.proofs.FromTheEnd.{frame-is, footer-missing}
 
 -- ---- the words
-addressed-number : (n k skip : ℕ) (r : WordsRead) → numberOf (Addressed n k skip r) ≡ wordsNumber r
-addressed-number n k skip (Read.Command c) = refl
-addressed-number n k skip (Read.Refused m) = refl
+addressed-number : (n k end : ℕ) (r : WordsRead) → numberOf (Addressed n k end r) ≡ wordsNumber r
+addressed-number n k end (Read.Command c p) = refl
+addressed-number n k end (Read.Refused m) = refl
 
 abbrev fromWords : List (List ℕ) → ℕ
 fromWords ws = firstOf (4 when badAddress ws ∷ 10 when badCommand (own ws) ∷ 11 when badData (own ws) ∷ [])
 
-axis-refused : (w : List ℕ) (n : ℕ) (t : List (List ℕ)) (b : Bool) → startsNumber w ≡ true → readAddress w ≡ Unsigned.Value n
-    → ltb (axisDigit (headWord t)) 10 ≡ b
-    → numberOf (axisOf n t) ≡ fromWords (w ∷ t)
-unfolding axisOf badAddress own wordsRefusal firstOf headWord tailWords
-axis-refused w n t false s q e = simp (s, q, e) (addressed-number n 0 1 (readCommand t) ∙ words-refused t)
-axis-refused w n [] true s q e = simp (s, q, e) (addressed-number n (axisDigit []) 2 (readCommand []) ∙ words-refused [])
-axis-refused w n (v ∷ t) true s q e = simp (s, q, e) (addressed-number n (axisDigit v) 2 (readCommand t) ∙ words-refused t)
+module _ (end : ℕ) where
+  axis-refused : (past : ℕ → ℕ) (w : List ℕ) (n : ℕ) (t : List (List ℕ)) (b : Bool) → startsNumber w ≡ true
+      → readAddress w ≡ Unsigned.Value n → ltb (axisDigit (headWord t)) 10 ≡ b
+      → numberOf (axisOf n end past t) ≡ fromWords (w ∷ t)
+  unfolding axisOf badAddress own wordsRefusal firstOf headWord tailWords
+  axis-refused past w n t false s q e =
+      simp (s, q, e) (addressed-number n 0 end (readCommand (past 2) t) ∙ words-refused (past 2) t)
+  axis-refused past w n [] true s q e =
+      simp (s, q, e) (addressed-number n (axisDigit []) end (readCommand (past 3) []) ∙ words-refused (past 3) [])
+  axis-refused past w n (v ∷ t) true s q e =
+      simp (s, q, e) (addressed-number n (axisDigit v) end (readCommand (past 3) t) ∙ words-refused (past 3) t)
 
-words-at : (w : List ℕ) (t : List (List ℕ)) (u : UnsignedRead) → startsNumber w ≡ true → readAddress w ≡ u
-    → readWords (w ∷ t) ≡ addressOf u t
-unfolding readWords headWord tailWords
-words-at w t u h q = simp (h, q)
+  module _ (past : ℕ → ℕ) where
+    words-at : (w : List ℕ) (t : List (List ℕ)) (u : UnsignedRead) → startsNumber w ≡ true → readAddress w ≡ u
+        → readWords end past (w ∷ t) ≡ addressOf u end (λ i. past (suc i)) t
+    unfolding readWords headWord tailWords
+    words-at w t u h q = simp (h, q)
 
-words-number : (ws : List (List ℕ)) (b : Bool) → startsNumber (headWord ws) ≡ b → numberOf (readWords ws) ≡ fromWords ws
-unfolding readWords badAddress own wordsRefusal firstOf headWord tailWords
-words-number ws false h = simp h (addressed-number 0 0 0 (readCommand ws) ∙ words-refused ws)
-words-number [] true h = clash h (starts-none [] refl)
-words-number (w ∷ t) true h = go (readAddress w) refl
-  where
-    go : (u : UnsignedRead) → readAddress w ≡ u → numberOf (readWords (w ∷ t)) ≡ fromWords (w ∷ t)
-    go (Unsigned.Refused p) q = simp (h, q)
-    go (Unsigned.Value n) q = ap numberOf (words-at w t (Unsigned.Value n) h q) ∙ axis-refused w n t _ h q refl
+    words-number : (ws : List (List ℕ)) (b : Bool) → startsNumber (headWord ws) ≡ b → numberOf (readWords end past ws) ≡ fromWords ws
+    unfolding readWords badAddress own wordsRefusal firstOf headWord tailWords
+    words-number ws false h = simp h (addressed-number 0 0 end (readCommand (past 2) ws) ∙ words-refused (past 2) ws)
+    words-number [] true h = clash h starts-none
+    words-number (w ∷ t) true h = go (readAddress w) refl
+      where
+        go : (u : UnsignedRead) → readAddress w ≡ u → numberOf (readWords end past (w ∷ t)) ≡ fromWords (w ∷ t)
+        go (Unsigned.Refused p) q = simp (h, q)
+        go (Unsigned.Value n) q =
+            ap numberOf (words-at w t (Unsigned.Value n) h q) ∙ axis-refused (λ i. past (suc i)) w n t _ h q refl
 
 -- ---- the line
 too-long-refused : (l : List ℕ) → 80 < length l → numberOf (readLine l) ≡ refusalOf l
@@ -86,7 +95,9 @@ module _ (l : List ℕ) (fits : length l ≤ 80) where
       → take n (drop 1 l) ≡ content (body l)
       → numberOf (readLine l) ≡ refusalOf l
   unfolding readLine refusalOf firstOf tooLong
-  words-answered n q e k c = simp (q, le-ltb 80 (length l) fits, e, k, c) (words-number (cut (content (body l))) _ refl)
+  words-answered n q e k c =
+      simp (q, le-ltb 80 (length l) fits, e, k, behind-slash n l, c)
+      (words-number (length (take (suc n) l)) (pastMany (take (suc n) l) 1) (cut (content (body l))) _ refl)
 
   slash-missing : (getD l 0 0 ≡ 47 → ⊥) → notLine l ≡ true
   unfolding notLine
@@ -118,6 +129,6 @@ line-refused l =
     with-slash : (t : List ℕ) → l ≡ 47 ∷ t → length l ≤ 80 → numberOf (readLine l) ≡ refusalOf l
     with-slash t q h = rw q (slash-refused t _ refl (rw q at h))
 
--- what `read_line` promises of its answer
-pub answered : {r : LineRead} (l : List ℕ) → r ≡ readLine l → (r ≡ readLine l) × (numberOf r ≡ refusalOf l)
-answered l e = (e, ap numberOf e ∙ line-refused l)
+-- what `read_line` promises of its answer: its number is that of the table, where the opening is this line's
+pub answered : {r : LineRead} (l : List ℕ) (o : Opening) → r ≡ readOn l o → (r ≡ readOn l o) × (o ≡ openLine l → numberOf r ≡ refusalOf l)
+answered l o e = (e, (λ q. ap numberOf (e ∙ ap (readOn l) q ∙ opened-read l) ∙ line-refused l))

@@ -1,99 +1,174 @@
 -- The cases of the reading of address, axis and line, as the tests of the code have them.
 -- Assumes nothing.
 use mathlib.Core.Path.{_≡_, refl, sym, ap, _∙_}
+use mathlib.Core.Logic.{⊎-elim}
 use mathlib.Core.Bool.{Bool, true, false}
 use mathlib.Core.List.{List, [], _∷_}
-use Prim.Native.Nat.{ℕ, _+_, _-_, _≤_, _<_}
+use Prim.Native.Nat.{ℕ, zero, suc, _+_, _-_, _≤_, _<_, min}
+use native.Mathlib.Numerals.{add-one}
 use native.Mathlib.Omega.{arith}
 use lib.Dec.{ltb}
-use lib.ListN.{length, getD, take, drop}
+use lib.ListN.{length, getD, take, drop, length-drop, length-take}
+use lib.Seq.{drop-cons, take-all}
 use borrow.Author.Tests.{eq-eqb, ne-eqb, lt-ltb, le-ltb}
+use Rattle.laws.specs.Lists.{span}
+use Rattle.laws.proofs.Order.{lt-or-le, eq-or-ne}
+use Rattle.laws.proofs.Span.{span-yes, span-not, span-none}
 use Rattle.numbers.specs.Reading.{valueOf, readAddress}
 use Rattle.numbers.specs.declared.UnsignedRead.{UnsignedRead}
-use Rattle.words.specs.Cutting.{cut, headWord, nextOf}
-use Rattle.words.specs.declared.Next.{Next}
-use Rattle.words.specs.declared.Next.the-variants.{Word, End}
-use Rattle.words.proofs.Cut.{head-none, head-some, tail-some}
+use Rattle.words.specs.Cutting.{noSpace, cut, headWord, startOf, endOf, wordAt, pastOf, pastMany}
+use Rattle.words.specs.declared.Word.{Word}
+use Rattle.words.proofs.Space.{other-yes, other-not, at-word}
+use Rattle.words.proofs.Cut.{head-at, left-none, word-head, word-within, word-tail, word-past, past-first}
 use Rattle.phrase.specs.Reading.{readCommand}
 use Rattle.phrase.specs.declared.WordsRead.{WordsRead}
-use Rattle.line.specs.Reading.{startsNumber, axisDigit, axisOf, addressOf, readWords, frameOf, readLine}
-use Rattle.line.specs.declared.Frame.{Frame}
-use Rattle.line.specs.declared.Frame.the-variants as Frame
-use Rattle.line.specs.declared.LineRead.{LineRead}
-use Rattle.line.specs.declared.LineRead.the-variants.{Silent, Addressed}
+use Rattle.line.specs.Reading.{beginsNumber, startsNumber, axisDigit, axisOf}
+use Rattle.line.specs.Opening.{digitAt}
+use Rattle.line.specs.declared.LineRead.the-variants.{Addressed}
 
-pub starts-none : (w : List ℕ) → length w ≡ 0 → startsNumber w ≡ false
+-- ---- a byte that begins a number
+pub begins-plus : (c : ℕ) → c ≡ 43 → beginsNumber c ≡ true
+unfolding beginsNumber
+begins-plus c h = rw (eq-eqb c 43 h)
+
+pub begins-minus : (c : ℕ) → (c ≡ 43 → ⊥) → c ≡ 45 → beginsNumber c ≡ true
+unfolding beginsNumber
+begins-minus c k h = rw (ne-eqb c 43 k, eq-eqb c 45 h)
+
+pub begins-digit : (c : ℕ) → (c ≡ 43 → ⊥) → (c ≡ 45 → ⊥) → beginsNumber c ≡ ltb (valueOf c) 10
+unfolding beginsNumber
+begins-digit c k j = rw (ne-eqb c 43 k, ne-eqb c 45 j)
+
+pub starts-none : startsNumber [] ≡ false
 unfolding startsNumber
-starts-none [] h = refl
-starts-none (c ∷ w) h = absurd (omega arith)
+starts-none = refl
 
-pub starts-plus : (w : List ℕ) → getD w 0 0 ≡ 43 → startsNumber w ≡ true
-unfolding startsNumber
-starts-plus [] h = absurd (omega arith)
-starts-plus (c ∷ w) h = rw (eq-eqb c 43 h)
+-- ---- the first word from `at` on, which may start at a
+module _ (s : List ℕ) (at : ℕ) {a : ℕ} (q : a ≡ startOf s at) where
+  pub number-none : length s ≤ a → false ≡ startsNumber (headWord (cut (drop at s)))
+  unfolding headWord
+  number-none l = rw (left-none s at q l) (sym starts-none)
 
-pub starts-minus : (w : List ℕ) → (getD w 0 0 ≡ 43 → ⊥) → getD w 0 0 ≡ 45 → startsNumber w ≡ true
-unfolding startsNumber
-starts-minus [] k h = absurd (omega arith)
-starts-minus (c ∷ w) k h = rw (ne-eqb c 43 k, eq-eqb c 45 h)
+  axis-none : length s ≤ a → 99 ≡ axisDigit (headWord (cut (drop at s)))
+  unfolding headWord axisDigit
+  axis-none l = rw (left-none s at q l)
 
-pub starts-digit : (w : List ℕ) → (length w ≡ 0 → ⊥) → (getD w 0 0 ≡ 43 → ⊥) → (getD w 0 0 ≡ 45 → ⊥)
-    → startsNumber w ≡ ltb (valueOf (getD w 0 0)) 10
-unfolding startsNumber
-starts-digit [] h k j = absurd (h refl)
-starts-digit (c ∷ w) h k j = rw (ne-eqb c 43 k, ne-eqb c 45 j)
+  module _ (l : a < length s) where
+    pub number-first : beginsNumber (getD s a 0) ≡ startsNumber (headWord (cut (drop at s)))
+    unfolding startsNumber
+    number-first = rw (head-at s at q l)
 
-pub axis-one : (w : List ℕ) → length w ≡ 1 → valueOf (getD w 0 0) ≡ axisDigit w
+    -- the bytes behind its first: none, a space, or more of it
+    axis-by : (t : List ℕ) → drop (suc a) s ≡ t → (n : ℕ) → span noSpace t ≡ n
+        → axisDigit (headWord (cut (drop at s))) ≡ axisDigit (getD s a 0 ∷ take n t)
+    axis-by t e n m = rw (head-at s at q l, e, m)
+
+    axis-last : length s - a ≡ 1 → valueOf (getD s a 0) ≡ axisDigit (headWord (cut (drop at s)))
+    unfolding axisDigit
+    axis-last h = go (drop (suc a) s) refl
+      where
+        go : (t : List ℕ) → drop (suc a) s ≡ t → valueOf (getD s a 0) ≡ axisDigit (headWord (cut (drop at s)))
+        go [] e = sym (axis-by [] e 0 (span-none noSpace))
+        go (d ∷ t) e = absurd (omega (arith, length-drop (suc a) s, ap length e))
+
+    module _ (h : length s - a ≡ 1 → ⊥) where
+      behind : drop (suc a) s ≡ getD s (suc a) 0 ∷ drop (suc (suc a)) s
+      behind = drop-cons s (suc a) 0 (more (length s) l h)
+        where
+          more : (n : ℕ) → a < n → (n - a ≡ 1 → ⊥) → suc a < n
+          more n i j = omega arith
+
+      axis-alone : getD s (a + 1) 0 ≡ 32 → valueOf (getD s a 0) ≡ axisDigit (headWord (cut (drop at s)))
+      unfolding axisDigit
+      axis-alone e = sym (axis-by _ behind 0 (span-not noSpace _ _ (other-not _ (rw add-one at e))))
+
+      axis-longer : (getD s (a + 1) 0 ≡ 32 → ⊥) → 99 ≡ axisDigit (headWord (cut (drop at s)))
+      unfolding axisDigit
+      axis-longer e = sym (axis-by _ behind _ (span-yes noSpace _ _ (other-yes _ (rw add-one at e))))
+
+-- ---- the digit at a place, as the tests of the code have it
+module _ (s : List ℕ) (i : ℕ) where
+  pub digit-none : length s ≤ i → 99 ≡ digitAt s i
+  unfolding digitAt
+  digit-none h = rw (le-ltb i (length s) h)
+
+  module _ (l : i < length s) where
+    pub digit-last : length s - i ≡ 1 → valueOf (getD s i 0) ≡ digitAt s i
+    unfolding digitAt
+    digit-last h = rw (lt-ltb i (length s) l, eq-eqb (length s - i) 1 h)
+
+    module _ (h : length s - i ≡ 1 → ⊥) where
+      pub digit-alone : getD s (i + 1) 0 ≡ 32 → valueOf (getD s i 0) ≡ digitAt s i
+      unfolding digitAt
+      digit-alone e = rw (lt-ltb i (length s) l, ne-eqb (length s - i) 1 h, eq-eqb (getD s (i + 1) 0) 32 e)
+
+      pub digit-longer : (getD s (i + 1) 0 ≡ 32 → ⊥) → 99 ≡ digitAt s i
+      unfolding digitAt
+      digit-longer e = rw (lt-ltb i (length s) l, ne-eqb (length s - i) 1 h, ne-eqb (getD s (i + 1) 0) 32 e)
+
+  -- where a digit is told, the place is in the content
+  pub axis-there : {d : ℕ} → d ≡ digitAt s i → d < 10 → i < length s
+  axis-there e h = ⊎-elim (λ l. l) (λ l. absurd (omega (arith, digit-none l))) (lt-or-le i (length s))
+
+-- ---- the words behind the address: the first of them may start at a
+one-byte : (w : List ℕ) → axisDigit w < 10 → length w ≡ 1
 unfolding axisDigit
-axis-one [] h = absurd (omega arith)
-axis-one (c ∷ []) h = refl
-axis-one (c ∷ d ∷ w) h = absurd (omega arith)
+one-byte [] h = absurd (omega arith)
+one-byte (c ∷ []) h = refl
+one-byte (c ∷ d ∷ w) h = absurd (omega arith)
 
-pub axis-not : (w : List ℕ) → (length w ≡ 1 → ⊥) → 99 ≡ axisDigit w
-unfolding axisDigit
-axis-not [] h = refl
-axis-not (c ∷ []) h = absurd (h refl)
-axis-not (c ∷ d ∷ w) h = refl
+module _ (s : List ℕ) (at : ℕ) {a : ℕ} (q : a ≡ startOf s at) where
+  digit-axis : digitAt s a ≡ axisDigit (headWord (cut (drop at s)))
+  digit-axis =
+      ⊎-elim (λ l. ⊎-elim (λ h. sym (digit-last s a l h) ∙ axis-last s at q l h)
+      (λ h. ⊎-elim (λ e. sym (digit-alone s a l h e) ∙ axis-alone s at q l h e) (λ e. sym (digit-longer s a l h e) ∙ axis-longer s at q l h e)
+      (eq-or-ne (getD s (a + 1) 0) 32)) (eq-or-ne (length s - a) 1))
+      (λ l. sym (digit-none s a l) ∙ axis-none s at q l)
+      (lt-or-le a (length s))
 
--- the word that `next_word` finds from `at` on is the axis word, or is none; and so for the address word
-module _ (s : List ℕ) (at : ℕ) {w : Next} (q : w ≡ nextOf s at) where
-  module _ (a e : ℕ) (h : w ≡ Word a e) where
-    pub axis-read : {r : WordsRead} (n d : ℕ) → d ≡ axisDigit (take (e - a) (drop a s)) → d < 10 → r ≡ readCommand (cut (drop e s))
-        → Addressed n d 2 r ≡ axisOf n (cut (drop at s))
+  -- behind an axis word
+  behind-axis : digitAt s a < 10 → a + 1 ≡ pastOf s at
+  unfolding pastOf
+  behind-axis h =
+      ⊎-elim (λ (l : a < length s).
+      let w = at-word s at a q l in
+      let one = one-byte (headWord (cut (drop at s))) (rw digit-axis at h) in
+      let size : length (take (endOf s a - a) (drop a s)) ≡ 1 = ap length (rw w at (word-head s at {w = wordAt s at} refl)) ∙ one in
+      let within : endOf s a ≤ length s = rw w at (word-within s at {w = wordAt s at} refl) in
+      let place : endOf s a ≡ pastOf s at = sym (ap (λ (x : Word). x .end) w) in
+      omega (arith, length-take (endOf s a - a) (drop a s), length-drop a s))
+      (λ (l : length s ≤ a). absurd (omega (arith, digit-none s a l)))
+      (lt-or-le a (length s))
+
+  module _ (n : ℕ) {d : ℕ} (is : d ≡ digitAt s a) where
+    pub with-axis : {r : WordsRead} → d < 10 → r ≡ readCommand (pastMany s (a + 1) 2) (cut (drop (a + 1) s))
+        → Addressed n d (length s) r ≡ axisOf n (length s) (pastMany s at) (cut (drop at s))
     unfolding axisOf
-    axis-read n d k l c = rw (← head-some s at q a e h, ← k, lt-ltb d 10 l, ← tail-some s at q a e h, ← c)
+    with-axis l e =
+        let p = behind-axis (rw is at l) in
+        rw (← digit-axis, ← is, lt-ltb d 10 l, ← word-tail s at {w = wordAt s at} refl, ← past-first s at 2)
+        (ap (Addressed n d (length s)) (e ∙ rw (p, ← word-past s at {w = wordAt s at} refl)))
 
-    pub no-axis : {d : ℕ} → d ≡ axisDigit (take (e - a) (drop a s)) → 10 ≤ d → 10 ≤ axisDigit (headWord (cut (drop at s)))
-    no-axis k l = rw (← head-some s at q a e h, ← k) l
+    pub without-axis : {r : WordsRead} → 10 ≤ d → r ≡ readCommand (pastMany s at 2) (cut (drop at s))
+        → Addressed n 0 (length s) r ≡ axisOf n (length s) (pastMany s at) (cut (drop at s))
+    unfolding axisOf
+    without-axis l e = rw (← digit-axis, ← is, le-ltb d 10 l) (ap (Addressed n 0 (length s)) e)
 
-    pub address-read : {u : UnsignedRead} {r : LineRead} {b : Bool} → b ≡ startsNumber (take (e - a) (drop a s)) → b ≡ true
-        → u ≡ readAddress (take (e - a) (drop a s)) → r ≡ addressOf u (cut (drop e s)) → r ≡ readWords (cut (drop at s))
-    unfolding readWords
-    address-read k l u c = rw (← head-some s at q a e h, sym k ∙ l, ← tail-some s at q a e h, ← u) c
+-- ---- the content stands behind the `/`
+pub behind-slash : (n : ℕ) (l : List ℕ) → drop 1 (take (suc n) l) ≡ take n (drop 1 l)
+behind-slash zero [] = refl
+behind-slash (suc n) [] = refl
+behind-slash zero (c ∷ l) = refl
+behind-slash (suc n) (c ∷ l) = refl
 
-    pub no-address : {b : Bool} → b ≡ startsNumber (take (e - a) (drop a s)) → b ≡ false → startsNumber (headWord (cut (drop at s))) ≡ false
-    no-address k l = rw (← head-some s at q a e h) (sym k ∙ l)
+-- as many bytes as a front has are that front
+pub take-whole : (n : ℕ) (l : List ℕ) → take (length (take n l)) l ≡ take n l
+take-whole zero l = refl
+take-whole (suc n) [] = refl
+take-whole (suc n) (c ∷ l) = ap (λ (x : List ℕ). c ∷ x) (take-whole n l)
 
-  pub no-axis-word : w ≡ End → 10 ≤ axisDigit (headWord (cut (drop at s)))
-  no-axis-word h = rw (← head-none s at q h, ← axis-not [] (λ (z : length {A = ℕ} [] ≡ 1). omega arith)) (omega arith)
-
-  pub no-address-word : w ≡ End → startsNumber (headWord (cut (drop at s))) ≡ false
-  no-address-word h = rw (← head-none s at q h) (starts-none [] refl)
-
-module _ (ws : List (List ℕ)) {r : WordsRead} (is : r ≡ readCommand ws) where
-  pub without-axis : (n : ℕ) → 10 ≤ axisDigit (headWord ws) → Addressed n 0 1 r ≡ axisOf n ws
-  unfolding axisOf
-  without-axis n h = rw (le-ltb (axisDigit (headWord ws)) 10 h, ← is)
-
-  pub without-address : startsNumber (headWord ws) ≡ false → Addressed 0 0 0 r ≡ readWords ws
-  unfolding readWords
-  without-address h = rw (h, ← is)
-
-module _ (l : List ℕ) {f : Frame} (is : f ≡ frameOf l) (n : ℕ) where
-  pub line-silent : f ≡ Frame.Refused n → Silent n ≡ readLine l
-  unfolding readLine
-  line-silent h = rw (sym is ∙ h)
-
-  pub line-words : {r : LineRead} → f ≡ Frame.Content n → r ≡ readWords (cut (take (n + 1 - 1) (drop 1 l))) → r ≡ readLine l
-  unfolding readLine
-  line-words h e = rw (sym is ∙ h) (let q : n + 1 - 1 ≡ n = omega arith in e ∙ ap (λ (k : ℕ). readWords (cut (take k (drop 1 l)))) q)
+pub up-to : (end e : ℕ) (l : List ℕ) → e ≡ min end (length l) → take e l ≡ take end l
+up-to end e l q =
+    ⊎-elim (λ h. let k : e ≡ length l = omega arith in rw (k, take-all (length l) l (omega arith), take-all end l (omega arith)))
+    (λ h. let k : e ≡ end = omega arith in rw k)
+    (lt-or-le (length l) end)

@@ -8,7 +8,6 @@ use Rattle.numbers.specs.Reading as Number
 use Rattle.words.specs.Cutting as Words
 use Rattle.words.specs.Find as Find
 use Rattle.command.specs.Settings as Settings
-use Rattle.command.specs.Commands as Commands
 use Rattle.phrase.specs.Reading as Phrase
 use Rattle.line.specs.Reading as Line
 
@@ -22,11 +21,11 @@ unfolding Number.valueOf Number.scan Number.digitsFrom Number.startsHex Number.u
 openNumbers = 0
 
 unfoldable openWords : ℕ
-unfolding Words.isSpace Words.noSpace Words.grow Words.cut Words.headWord Words.tailWords Find.meaningOf
+unfolding Words.isSpace Words.noSpace Words.grow Words.cut Words.headWord Words.tailWords Words.wordAt Words.pastOf Words.pastMany Find.meaningOf
 openWords = 0
 
 unfoldable openCommand : ℕ
-unfolding Settings.axisSettings Settings.deviceSettings Settings.nameOf Commands.echoOf
+unfolding Settings.axisSettings Settings.deviceSettings Settings.nameOf
 openCommand = 0
 
 unfoldable openPhrase : ℕ
@@ -36,7 +35,7 @@ openPhrase = 0
 
 unfoldable openLine : ℕ
 unfolding Line.printable Line.noColon Line.isEnd Line.isFooter Line.checked Line.parted Line.afterSlash Line.slashed Line.frameOf
-    Line.startsNumber Line.axisDigit Line.axisOf Line.readWords Line.readLine Line.wordsOf Line.readAsked
+    Line.beginsNumber Line.startsNumber Line.axisDigit Line.axisOf Line.readWords Line.readLine Line.readAsked
 openLine = 0
 
 unfoldable pub reading : ℕ

@@ -3,7 +3,7 @@
 use mathlib.Core.Bool.{Bool, false, cond, not, _&&_, _||_}
 use mathlib.Core.List.{List, [], _∷_}
 use mathlib.Core.Option.{Option, none, some}
-use Prim.Native.Nat.{ℕ}
+use Prim.Native.Nat.{ℕ, suc}
 use lib.Dec.{eqb, ltb, leb}
 use lib.ListN.{take, drop, length}
 use Rattle.laws.specs.Lists.{span}
@@ -12,8 +12,9 @@ use Rattle.laws.specs.Refusals.{TOOLONG, NOTLINE, BADSUM, BADADDRESS}
 use Rattle.numbers.specs.Reading.{noDigit, valueOf, readAddress, readPair, saysSum}
 use Rattle.numbers.specs.declared.UnsignedRead.{UnsignedRead}
 use Rattle.numbers.specs.declared.UnsignedRead.the-variants as Unsigned
-use Rattle.words.specs.Cutting.{cut, headWord, tailWords}
-use Rattle.command.specs.Commands.{echoOf}
+use Rattle.words.specs.Cutting.{cut, headWord, tailWords, pastMany}
+use Rattle.command.specs.declared.Command.{Command}
+use Rattle.command.specs.Commands.{carriesWords}
 use Rattle.phrase.specs.Reading.{readCommand}
 use Rattle.phrase.specs.declared.WordsRead.the-variants as Words
 use Rattle.line.specs.declared.Frame.{Frame}
@@ -65,9 +66,12 @@ frameOf l = cond (ltb longestLine (length l)) (Frame.Refused TOOLONG) (slashed l
 -- ---- address and axis: 4
 
 -- "A first word that begins with a digit, `+` or `-` is always the address word."
+unfoldable pub beginsNumber : ℕ → Bool
+beginsNumber c = eqb c plus-sign || (eqb c minus-sign || ltb (valueOf c) 10)
+
 unfoldable pub startsNumber : List ℕ → Bool
 startsNumber [] = false
-startsNumber (c ∷ w) = eqb c plus-sign || (eqb c minus-sign || ltb (valueOf c) 10)
+startsNumber (c ∷ w) = beginsNumber c
 
 -- the digit that a word is, or none
 unfoldable pub axisDigit : List ℕ → ℕ
@@ -75,50 +79,54 @@ axisDigit [] = noDigit
 axisDigit (c ∷ []) = valueOf c
 axisDigit (c ∷ d ∷ w) = noDigit
 
--- the words behind the address n
-unfoldable pub axisOf : ℕ → List (List ℕ) → LineRead
-axisOf n ws =
+-- the words ws behind the address n, where the content ends at `end`, and `past i` is the place behind i of these words
+unfoldable pub axisOf : ℕ → ℕ → (ℕ → ℕ) → List (List ℕ) → LineRead
+axisOf n end past ws =
     cond (ltb (axisDigit (headWord ws)) 10)
-    (Addressed n (axisDigit (headWord ws)) 2 (readCommand (tailWords ws)))
-    (Addressed n 0 1 (readCommand ws))
+    (Addressed n (axisDigit (headWord ws)) end (readCommand (past 3) (tailWords ws)))
+    (Addressed n 0 end (readCommand (past 2) ws))
 
-abbrev pub addressOf : UnsignedRead → List (List ℕ) → LineRead
-addressOf (Unsigned.Refused p) ws = Silent BADADDRESS
-addressOf (Unsigned.Value n) ws = axisOf n ws
+abbrev pub addressOf : UnsignedRead → ℕ → (ℕ → ℕ) → List (List ℕ) → LineRead
+addressOf (Unsigned.Refused p) end past ws = Silent BADADDRESS
+addressOf (Unsigned.Value n) end past ws = axisOf n end past ws
 
-unfoldable pub readWords : List (List ℕ) → LineRead
-readWords ws = cond (startsNumber (headWord ws)) (addressOf (readAddress (headWord ws)) (tailWords ws)) (Addressed 0 0 0 (readCommand ws))
+-- the words of a content
+unfoldable pub readWords : ℕ → (ℕ → ℕ) → List (List ℕ) → LineRead
+readWords end past ws =
+    cond (startsNumber (headWord ws)) (addressOf (readAddress (headWord ws)) end (λ i. past (suc i)) (tailWords ws))
+    (Addressed 0 0 end (readCommand (past 2) ws))
 
 -- ---- the line
 
--- the words of a line's content, where its frame has one
-abbrev pub contentOf : List ℕ → Frame → List (List ℕ)
-contentOf l (Frame.Refused n) = []
-contentOf l (Frame.Content n) = cut (take n (drop 1 l))
+-- a line up to the end of its content, which stands behind the `/`
+abbrev pub readContent : List ℕ → LineRead
+readContent s = readWords (length s) (pastMany s 1) (cut (drop 1 s))
 
 abbrev pub framed : List ℕ → Frame → LineRead
 framed l (Frame.Refused n) = Silent n
-framed l (Frame.Content n) = readWords (cut (take n (drop 1 l)))
+framed l (Frame.Content n) = readContent (take (suc n) l)
 
 unfoldable pub readLine : List ℕ → LineRead
 readLine l = framed l (frameOf l)
-
-unfoldable pub wordsOf : List ℕ → List (List ℕ)
-wordsOf l = contentOf l (frameOf l)
 
 -- ---- document 01's number and values for each case of an answer
 
 -- the number: "1 to 5 ... are silent", 10 and 11 are not, and "Accepted is 0"
 abbrev pub numberOf : LineRead → ℕ
 numberOf (Silent n) = n
-numberOf (Addressed n k skip (Words.Refused m)) = m
-numberOf (Addressed n k skip (Words.Command c)) = 0
+numberOf (Addressed n k end (Words.Refused m)) = m
+numberOf (Addressed n k end (Words.Command c from)) = 0
 
--- the command: its address, its axis, and what its row carries, where ws are the words of the line
-abbrev pub askedBy : List (List ℕ) → LineRead → Option Asked
-askedBy ws (Silent n) = none
-askedBy ws (Addressed n k skip (Words.Refused m)) = none
-askedBy ws (Addressed n k skip (Words.Command c)) = some (record { address = n; axis = k; command = c; echo = echoOf c (drop skip ws) })
+-- the words that a command carries: those of the line l from a place up to the end of the content
+abbrev pub carriedBy : Command → List ℕ → List (List ℕ)
+carriedBy c s = cond (carriesWords c) (cut s) []
+
+-- the command: its address, its axis, and what its row carries, where l is the line
+abbrev pub askedBy : List ℕ → LineRead → Option Asked
+askedBy l (Silent n) = none
+askedBy l (Addressed n k end (Words.Refused m)) = none
+askedBy l (Addressed n k end (Words.Command c from)) =
+    some (record { address = n; axis = k; command = c; echo = carriedBy c (drop from (take end l)) })
 
 unfoldable pub readAsked : List ℕ → Option Asked
-readAsked l = askedBy (wordsOf l) (readLine l)
+readAsked l = askedBy l (readLine l)

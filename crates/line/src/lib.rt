@@ -11,8 +11,16 @@ pub enum Frame {
     Refused(u8),
 }
 
-// What a line is: silence, with its number; or an address, an axis, how many words stand before the command's own, and
-// what those come to.
+// A line whose frame and address are read, and no more of it: silence, with its number; no address, and the place where its
+// content ends; or an address, the place behind it, and the place where its content ends.
+pub enum Opening {
+    Silent(u8),
+    Bare(usize),
+    To(u64, usize, usize),
+}
+
+// What a line is: silence, with its number; or an address, an axis, the place where its content ends, and what the command's
+// words come to.
 pub enum LineRead {
     Silent(u8),
     Addressed(u64, u64, usize, WordsRead),

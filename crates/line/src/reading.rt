@@ -1,94 +1,128 @@
 // Reads a line: silence with 2, 1, 3 or 4; or an address, an axis and what the command's words come to.
-// The rules are in specs/Reading.antt; proofs/Demand3.antt shows that just what is spelled is read.
+// It is read in two steps, so that a line for another address is not read behind it. The rules are in specs/Reading.antt and
+// specs/Opening.antt; proofs/Demand3.antt shows that just what is spelled is read.
 ghost use mathlib.Core.Path.{_≡_};
-ghost use lib.ListN.{drop};
-ghost use Rattle.words.specs.Cutting.{cut};
-ghost use Rattle.line.specs.Reading.{startsNumber, axisDigit, axisOf, addressOf, readWords, readLine, numberOf};
+ghost use Prim.Native.Nat.{_≤_};
+ghost use lib.ListN.{length, take, drop};
+ghost use Rattle.words.specs.Cutting.{cut, headWord, pastMany};
+ghost use Rattle.line.specs.Reading.{beginsNumber, startsNumber, axisOf, numberOf};
 ghost use Rattle.line.specs.Refusals.{refusalOf};
+ghost use Rattle.line.specs.Opening.{digitAt, addressee, openWords, openLine, readOn};
 use crate::Frame;
 use crate::LineRead;
+use crate::Opening;
 use crate::framing::read_frame;
 use laws::BADADDRESS;
 use numbers::UnsignedRead;
 use numbers::digits::NO_DIGIT;
 use numbers::digits::digit_value;
-use words::Next;
+use units::lesser;
 
-// Does the word begin with a digit or a sign?
-fn starts_number(w: &[u8]) -> bool
-    ensures { λ r. ⌜ r ≡ startsNumber (now (w .entry)) ⌝ }
+// Is it a digit or a sign?
+fn begins_number(c: u8) -> bool
+    ensures { λ r. ⌜ r ≡ beginsNumber c ⌝ }
 {
-    if w.len() == 0 {
-        return false;
-    }
-    if w[0] == b'+' {
+    if c == b'+' {
         return true;
     }
-    if w[0] == b'-' {
+    if c == b'-' {
         return true;
     }
-    digit_value(w[0]) < 10
+    digit_value(c) < 10
 }
 
-// The digit that the word is, or none.
-fn axis_digit(w: &[u8]) -> u64
-    ensures { λ r. ⌜ r ≡ axisDigit (now (w .entry)) ⌝ }
+// Does the first word from at on begin as a number? Its first byte tells.
+fn number_at(s: &[u8], at: usize) -> bool
+    ensures { λ r. ⌜ r ≡ startsNumber (headWord (cut (drop at (now (s .entry))))) ⌝ }
 {
-    if w.len() == 1 {
-        return digit_value(w[0]);
+    let i = words::start_of(s, at);
+    if i < s.len() {
+        return begins_number(s[i]);
+    }
+    false
+}
+
+// The digit that a word from i on is, if it has one byte, or none. Two bytes tell.
+fn digit_at(s: &[u8], i: usize) -> u64
+    ensures { λ r. ⌜ r ≡ digitAt (now (s .entry)) i ⌝ }
+{
+    if s.len() <= i {
+        return NO_DIGIT;
+    }
+    if s.len() - i == 1 {
+        return digit_value(s[i]);
+    }
+    if s[i + 1] == b' ' {
+        return digit_value(s[i]);
     }
     NO_DIGIT
 }
 
-// The words behind the address n.
+// The words behind the address n, from a place on.
 fn read_axis(s: &[u8], at: usize, n: u64) -> LineRead
-    ensures { λ r. ⌜ r ≡ axisOf n (cut (drop at (now (s .entry)))) ⌝ }
+    ensures { λ r. ⌜ r ≡ axisOf n (length (now (s .entry))) (pastMany (now (s .entry)) at) (cut (drop at (now (s .entry)))) ⌝ }
 {
-    match words::next_word(s, at) {
-        Next::End => {}
-        Next::Word { start, end } => {
-            let d = axis_digit(&s[start..end]);
-            if d < 10 {
-                return LineRead::Addressed(n, d, 2, phrase::reading::read_command(s, end));
-            }
-        }
+    let i = words::start_of(s, at);
+    let d = digit_at(s, i);
+    if d < 10 {
+        return LineRead::Addressed(n, d, s.len(), phrase::reading::read_command(s, i + 1));
     }
-    LineRead::Addressed(n, 0, 1, phrase::reading::read_command(s, at))
+    LineRead::Addressed(n, 0, s.len(), phrase::reading::read_command(s, at))
 }
 
-// The words behind a first word that comes to a as an address.
-fn read_addressed(s: &[u8], at: usize, a: UnsignedRead) -> LineRead
-    ensures { λ r. ⌜ r ≡ addressOf a (cut (drop at (now (s .entry)))) ⌝ }
+// A first word that comes to a as an address; the content goes on from a place up to its end.
+fn addressee_of(a: UnsignedRead, at: usize, end: usize) -> Opening
+    ensures { λ r. ⌜ r ≡ addressee a at end ⌝ }
 {
     match a {
-        UnsignedRead::Refused(_) => LineRead::Silent(BADADDRESS),
-        UnsignedRead::Value(n) => read_axis(s, at, n),
+        UnsignedRead::Refused(_) => Opening::Silent(BADADDRESS),
+        UnsignedRead::Value(n) => Opening::To(n, at, end),
     }
 }
 
-// The words of a content.
-pub fn read_words(s: &[u8]) -> LineRead
-    ensures { λ r. ⌜ r ≡ readWords (cut (now (s .entry))) ⌝ }
+// The address of a line up to the end of its content.
+fn open_words(s: &[u8]) -> Opening
+    ensures { λ r. ⌜ r ≡ openWords (now (s .entry)) ⌝ }
 {
-    match words::next_word(s, 0) {
-        Next::End => {}
-        Next::Word { start, end } => {
-            let w = &s[start..end];
-            if starts_number(w) {
-                return read_addressed(s, end, numbers::reading::read_address(w));
-            }
-        }
+    if number_at(s, 1) {
+        let w = words::word_at(s, 1);
+        let start = w.start;
+        let end = w.end;
+        let a = numbers::reading::read_address(&s[start..end]);
+        return addressee_of(a, end, s.len());
     }
-    LineRead::Addressed(0, 0, 0, phrase::reading::read_command(s, 0))
+    Opening::Bare(s.len())
 }
 
-// A line.
-pub fn read_line(s: &[u8]) -> LineRead
-    ensures read { λ r. ⌜ r ≡ readLine (now (s .entry)) ⌝ }
-    ensures number { λ r. ⌜ numberOf r ≡ refusalOf (now (s .entry)) ⌝ }
+// A line's frame and address.
+pub fn open_line(s: &[u8]) -> Opening
+    ensures { λ r. ⌜ r ≡ openLine (now (s .entry)) ⌝ }
 {
     match read_frame(s) {
-        Frame::Refused(n) => LineRead::Silent(n),
-        Frame::Content(c) => read_words(&s[1..c + 1]),
+        Frame::Refused(n) => Opening::Silent(n),
+        Frame::Content(c) => open_words(&s[..c + 1]),
+    }
+}
+
+// The line up to a place, or all of it.
+fn up_to(s: &[u8], end: usize) -> &[u8]
+    ensures { λ r. ⌜ now r ≡ take end (now (s .entry)) ⌝ }
+{
+    let e = lesser(end, s.len());
+    &s[..e]
+}
+
+// A line, from its opening on.
+pub fn read_line(s: &[u8], o: Opening) -> LineRead
+    ensures read { λ r. ⌜ r ≡ readOn (now (s .entry)) o ⌝ }
+    ensures number { λ r. ⌜ (o ≡ openLine (now (s .entry)) → numberOf r ≡ refusalOf (now (s .entry))) ⌝ }
+{
+    match o {
+        Opening::Silent(n) => LineRead::Silent(n),
+        Opening::Bare(end) => {
+            let t = up_to(s, end);
+            LineRead::Addressed(0, 0, t.len(), phrase::reading::read_command(t, 1))
+        }
+        Opening::To(n, at, end) => read_axis(up_to(s, end), at, n),
     }
 }

@@ -64,7 +64,7 @@ no-name d w [] none = refl
 no-name d w (e ∷ es) (more h hs) = rw h (no-name d w es hs)
 
 -- the names of each table are all different
-pub firsts-apart : distinct (wordsOf (Refused 10) (firsts [])) ≡ true
+pub firsts-apart : distinct (wordsOf (Refused 10) (firsts 0 [])) ≡ true
 unfolding distinct index same text
 firsts-apart = refl
 
@@ -72,7 +72,7 @@ pub moves-apart : distinct (wordsOf (Refused 10) (moves [])) ≡ true
 unfolding distinct index same text
 moves-apart = refl
 
-pub tools-apart : distinct (wordsOf (Refused 10) (tools [])) ≡ true
+pub tools-apart : distinct (wordsOf (Refused 10) (tools 0 [])) ≡ true
 unfolding distinct index same text
 tools-apart = refl
 

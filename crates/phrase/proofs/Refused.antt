@@ -39,8 +39,8 @@ given a b = firstOf (10 when a ∷ 11 when b ∷ [])
 abbrev wordsOf : List (Entry WordsRead) → List (List ℕ)
 wordsOf es = map (λ (e : Entry WordsRead). e .word) es
 
-abbrev Agrees : List (List ℕ) → Type 0
-Agrees ws = wordsNumber (readCommand ws) ≡ given (badCommand ws) (badData ws)
+abbrev Agrees : ℕ → List (List ℕ) → Type 0
+Agrees p ws = wordsNumber (readCommand p ws) ≡ given (badCommand ws) (badData ws)
 
 -- what stands behind the front of a row
 fit : (b : Bool) → cond b 0 11 ≡ given false (not (b || false))
@@ -63,10 +63,10 @@ number-fits k (w ∷ []) = go (readNumber w)
     go (Number.Refused p) = fit false
 number-fits k (w ∷ v ∷ t) = simp and-false (fit false)
 
-move-agrees : (ws : List (List ℕ)) → Agrees (text "move" ∷ ws)
+move-agrees : (p : ℕ) (ws : List (List ℕ)) → Agrees p (text "move" ∷ ws)
 unfolding readCommand readMove meaningOf headWord tailWords badCommand badData beginSo firstOf fold same text
-move-agrees [] = refl
-move-agrees (u ∷ t) = among (λ (u : List ℕ). Agrees (text "move" ∷ u ∷ t)) u {vs = wordsOf (moves t)}
+move-agrees p [] = refl
+move-agrees p (u ∷ t) = among (λ (u : List ℕ). Agrees p (text "move" ∷ u ∷ t)) u {vs = wordsOf (moves t)}
     (number-fits With.MoveAbs t
     also number-fits With.MoveRel t
     also number-fits With.MoveVel t
@@ -76,83 +76,83 @@ move-agrees (u ∷ t) = among (λ (u : List ℕ). Agrees (text "move" ∷ u ∷ 
     also none)
     (λ d. simp (d .0, d .1 .0, d .1 .1 .0, d .1 .1 .1 .0, d .1 .1 .1 .1 .0, d .1 .1 .1 .1 .1 .0))
 
-after-get : (u : List ℕ) (t : List (List ℕ)) (x : SettingRead) → readSetting u ≡ x → Agrees (text "get" ∷ u ∷ t)
+after-get : (p : ℕ) (u : List ℕ) (t : List (List ℕ)) (x : SettingRead) → readSetting u ≡ x → Agrees p (text "get" ∷ u ∷ t)
 unfolding readCommand readGet meaningOf headWord tailWords badCommand badData beginSo firstOf fold same text
-after-get u t Unknown q = rw q refl
-after-get u t (Is s) q = rw q (ended-fits (getCommand s) t)
+after-get p u t Unknown q = rw q refl
+after-get p u t (Is s) q = rw q (ended-fits (getCommand s) t)
 
-get-agrees : (ws : List (List ℕ)) → Agrees (text "get" ∷ ws)
+get-agrees : (p : ℕ) (ws : List (List ℕ)) → Agrees p (text "get" ∷ ws)
 unfolding readCommand readGet meaningOf headWord tailWords badCommand badData beginSo firstOf fold same text
-get-agrees [] = rw setting-none refl
-get-agrees (u ∷ t) = after-get u t (readSetting u) refl
+get-agrees p [] = rw setting-none refl
+get-agrees p (u ∷ t) = after-get p u t (readSetting u) refl
 
-after-set : (u : List ℕ) (t : List (List ℕ)) (x : SettingRead) → readSetting u ≡ x → Agrees (text "set" ∷ u ∷ t)
+after-set : (p : ℕ) (u : List ℕ) (t : List (List ℕ)) (x : SettingRead) → readSetting u ≡ x → Agrees p (text "set" ∷ u ∷ t)
 unfolding readCommand readSet meaningOf headWord tailWords badCommand badData beginSo firstOf fold same text
-after-set u t Unknown q = rw q refl
-after-set u t (Is s) q = go (readOnly s) refl
+after-set p u t Unknown q = rw q refl
+after-set p u t (Is s) q = go (readOnly s) refl
   where
-    go : (b : Bool) → readOnly s ≡ b → Agrees (text "set" ∷ u ∷ t)
+    go : (b : Bool) → readOnly s ≡ b → Agrees p (text "set" ∷ u ∷ t)
     go true r = rw (q, r) refl
     go false r = rw (q, r) (number-fits (With.SetTo s) t)
 
-set-agrees : (ws : List (List ℕ)) → Agrees (text "set" ∷ ws)
+set-agrees : (p : ℕ) (ws : List (List ℕ)) → Agrees p (text "set" ∷ ws)
 unfolding readCommand readSet meaningOf headWord tailWords badCommand badData beginSo firstOf fold same text
-set-agrees [] = rw setting-none refl
-set-agrees (u ∷ t) = after-set u t (readSetting u) refl
+set-agrees p [] = rw setting-none refl
+set-agrees p (u ∷ t) = after-set p u t (readSetting u) refl
 
-storepos-agrees : (t : List (List ℕ)) → Agrees (text "tools" ∷ text "storepos" ∷ t)
+storepos-agrees : (p : ℕ) (t : List (List ℕ)) → Agrees p (text "tools" ∷ text "storepos" ∷ t)
 unfolding readCommand readTools readStorepos meaningOf headWord tailWords badCommand badData beginSo justSo firstOf fold same text
-storepos-agrees [] = refl
-storepos-agrees (w ∷ []) = go (readNumber w) refl
+storepos-agrees p [] = refl
+storepos-agrees p (w ∷ []) = go (readNumber w) refl
   where
-    go : (x : NumberRead) → readNumber w ≡ x → Agrees (text "tools" ∷ text "storepos" ∷ w ∷ [])
+    go : (x : NumberRead) → readNumber w ≡ x → Agrees p (text "tools" ∷ text "storepos" ∷ w ∷ [])
     go (Number.Value n) q = rw q refl
-    go (Number.Refused p) q = rw q refl
-storepos-agrees (w ∷ v ∷ []) = go (same v (text "current")) refl (readNumber w) refl (readNumber v) refl
+    go (Number.Refused o) q = rw q refl
+storepos-agrees p (w ∷ v ∷ []) = go (same v (text "current")) refl (readNumber w) refl (readNumber v) refl
   where
     go : (b : Bool) → same v (text "current") ≡ b → (x : NumberRead) → readNumber w ≡ x → (y : NumberRead) → readNumber v ≡ y
-        → Agrees (text "tools" ∷ text "storepos" ∷ w ∷ v ∷ [])
+        → Agrees p (text "tools" ∷ text "storepos" ∷ w ∷ v ∷ [])
     go true e (Number.Value n) q (Number.Value m) r = rw (e, q, r) refl
     go true e (Number.Value n) q (Number.Refused o) r = rw (e, q, r) refl
-    go true e (Number.Refused p) q y r = rw (e, q) refl
+    go true e (Number.Refused o) q y r = rw (e, q) refl
     go false e (Number.Value n) q (Number.Value m) r = rw (e, q, r) refl
     go false e (Number.Value n) q (Number.Refused o) r = rw (e, q, r) refl
-    go false e (Number.Refused p) q y r = rw (e, q) refl
-storepos-agrees (w ∷ v ∷ u ∷ t) = simp and-false
+    go false e (Number.Refused o) q y r = rw (e, q) refl
+storepos-agrees p (w ∷ v ∷ u ∷ t) = simp and-false
 
-parking-agrees : (ws : List (List ℕ)) → Agrees (text "tools" ∷ text "parking" ∷ ws)
+parking-agrees : (p : ℕ) (ws : List (List ℕ)) → Agrees p (text "tools" ∷ text "parking" ∷ ws)
 unfolding readCommand readTools readParking meaningOf headWord tailWords badCommand badData beginSo justSo firstOf fold same text
-parking-agrees [] = refl
-parking-agrees (u ∷ t) = among (λ (u : List ℕ). Agrees (text "tools" ∷ text "parking" ∷ u ∷ t)) u {vs = wordsOf (parkings t)}
+parking-agrees p [] = refl
+parking-agrees p (u ∷ t) = among (λ (u : List ℕ). Agrees p (text "tools" ∷ text "parking" ∷ u ∷ t)) u {vs = wordsOf (parkings t)}
     (ended-fits (OfDevice ParkingState) t also ended-fits (OfDevice Park) t also ended-fits (OfDevice Unpark) t also none)
     (λ d. simp (d .0, d .1 .0, d .1 .1 .0))
 
-tools-agrees : (ws : List (List ℕ)) → Agrees (text "tools" ∷ ws)
+tools-agrees : (p : ℕ) (ws : List (List ℕ)) → Agrees p (text "tools" ∷ ws)
 unfolding readCommand readTools meaningOf headWord tailWords badCommand badData beginSo justSo firstOf fold same text
-tools-agrees [] = refl
-tools-agrees (u ∷ t) = among (λ (u : List ℕ). Agrees (text "tools" ∷ u ∷ t)) u {vs = wordsOf (tools t)}
-    (storepos-agrees t also parking-agrees t also refl also none) (λ d. simp (d .0, d .1 .0, d .1 .1 .0))
+tools-agrees p [] = refl
+tools-agrees p (u ∷ t) = among (λ (u : List ℕ). Agrees p (text "tools" ∷ u ∷ t)) u {vs = wordsOf (tools p t)}
+    (storepos-agrees p t also parking-agrees p t also refl also none) (λ d. simp (d .0, d .1 .0, d .1 .1 .0))
 
-warnings-agrees : (ws : List (List ℕ)) → Agrees (text "warnings" ∷ ws)
+warnings-agrees : (p : ℕ) (ws : List (List ℕ)) → Agrees p (text "warnings" ∷ ws)
 unfolding readCommand readWarnings meaningOf badCommand badData beginSo justSo firstOf fold same text
-warnings-agrees [] = refl
-warnings-agrees (u ∷ t) = go (same u (text "clear")) refl
+warnings-agrees p [] = refl
+warnings-agrees p (u ∷ t) = go (same u (text "clear")) refl
   where
-    go : (b : Bool) → same u (text "clear") ≡ b → Agrees (text "warnings" ∷ u ∷ t)
+    go : (b : Bool) → same u (text "clear") ≡ b → Agrees p (text "warnings" ∷ u ∷ t)
     go true e = rw e (ended-fits (OfAxes WarningsClear) t)
     go false e = rw e refl
 
-first-agrees : (w : List ℕ) (t : List (List ℕ)) → Agrees (w ∷ t)
+first-agrees : (p : ℕ) (w : List ℕ) (t : List (List ℕ)) → Agrees p (w ∷ t)
 unfolding readCommand meaningOf badCommand badData beginSo justSo firstOf fold same text
-first-agrees w t = among (λ (w : List ℕ). Agrees (w ∷ t)) w {vs = wordsOf (firsts t)}
+first-agrees p w t = among (λ (w : List ℕ). Agrees p (w ∷ t)) w {vs = wordsOf (firsts p t)}
     (ended-fits (OfAxes Home) t
     also ended-fits (OfAxes Stop) t
     also ended-fits (OfAxes Estop) t
-    also move-agrees t
-    also get-agrees t
-    also set-agrees t
-    also tools-agrees t
-    also warnings-agrees t
+    also move-agrees p t
+    also get-agrees p t
+    also set-agrees p t
+    also tools-agrees p t
+    also warnings-agrees p t
     also none)
     (λ d. simp (
       d .0,
@@ -166,11 +166,12 @@ first-agrees w t = among (λ (w : List ℕ). Agrees (w ∷ t)) w {vs = wordsOf (
     ))
 
 -- Words are refused with the first of 10 and 11 that applies, and with no other number.
-pub words-refused : (ws : List (List ℕ)) → wordsNumber (readCommand ws) ≡ wordsRefusal ws
+pub words-refused : (p : ℕ) (ws : List (List ℕ)) → wordsNumber (readCommand p ws) ≡ wordsRefusal ws
 unfolding wordsRefusal readCommand badCommand badData firstOf
-words-refused [] = refl
-words-refused (w ∷ t) = first-agrees w t
+words-refused p [] = refl
+words-refused p (w ∷ t) = first-agrees p w t
 
 -- what `read_command` promises of its answer
-pub answered : {r : WordsRead} (ws : List (List ℕ)) → r ≡ readCommand ws → (r ≡ readCommand ws) × (wordsNumber r ≡ wordsRefusal ws)
-answered ws e = (e, ap wordsNumber e ∙ words-refused ws)
+pub answered : {r : WordsRead} (p : ℕ) (ws : List (List ℕ)) → r ≡ readCommand p ws
+    → (r ≡ readCommand p ws) × (wordsNumber r ≡ wordsRefusal ws)
+answered p ws e = (e, ap wordsNumber e ∙ words-refused p ws)

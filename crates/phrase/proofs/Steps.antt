@@ -1,69 +1,29 @@
 -- The cases of the reading of a command's words, as the tests of the code have them.
 -- Assumes nothing.
-use mathlib.Core.Path.{_≡_, refl, sym, ap, _∙_}
+use mathlib.Core.Path.{_≡_, sym, ap, _∙_}
 use mathlib.Core.Bool.{Bool, true, false, cond}
 use mathlib.Core.List.{List, [], _∷_}
-use Prim.Native.Nat.{ℕ}
+use Prim.Native.Nat.{ℕ, _-_, _≤_, _<_}
 use native.Mathlib.Omega.{arith}
-use lib.ListN.{length}
+use lib.ListN.{length, take, drop}
 use Rattle.laws.specs.Text.{text, same}
 use Rattle.numbers.specs.Reading.{readNumber}
 use Rattle.numbers.specs.declared.NumberRead.{NumberRead}
-use Rattle.words.specs.Cutting.{headWord, tailWords, cut}
+use Rattle.words.specs.Cutting.{headWord, tailWords, cut, startOf, wordAt, pastOf, pastMany}
 use Rattle.words.specs.Find.{Entry, meaningOf}
-use Rattle.words.proofs.Cut.{word-none, word-some}
+use Rattle.words.specs.declared.Word.{Word}
+use Rattle.words.proofs.Cut.{word-head, word-tail, word-past, word-empty, word-full, left-none, left-some}
 use Rattle.command.specs.declared.AxisCommand.the-variants.{Nothing, Warnings, WarningsClear}
 use Rattle.command.specs.declared.Command.{Command}
 use Rattle.command.specs.declared.Command.the-variants.{OfAxes}
+use Rattle.phrase.specs.declared.SettingRead.{SettingRead}
 use Rattle.phrase.specs.declared.Numbered.{Numbered}
 use Rattle.phrase.specs.declared.Numbered.the-variants as With
 use Rattle.phrase.specs.declared.WordsRead.{WordsRead}
 use Rattle.phrase.specs.declared.WordsRead.the-variants.{Refused}
 use Rattle.phrase.specs.declared.WordsRead.the-variants as Words
-use Rattle.phrase.specs.Reading.{ended, made, oneNumber, storeAt, readStorepos, readWarnings, readCommand, firsts}
+use Rattle.phrase.specs.Reading.{ended, made, oneNumber, moves, readMove, readSetting, getOf, readGet, setOf, readSet, storeAt, readStorepos, parkings, readParking, tools, readTools, readWarnings, firsts, readCommand}
 
--- a first word that is looked up in a table, and the words t behind it
-module _ (es : List (List ℕ) → List (Entry WordsRead)) (d : WordsRead) (ws : List (List ℕ)) where
-  pub looked-up : {r : WordsRead} (v : List ℕ) (t : List (List ℕ)) → v ≡ headWord ws → t ≡ tailWords ws
-      → r ≡ meaningOf d v (es t) → r ≡ meaningOf d (headWord ws) (es (tailWords ws))
-  looked-up v t p q z = rw (← p, ← q) z
-
-module _ (l v : List ℕ) (first : v ≡ headWord (cut l)) where
-  -- no word is left, or some word is
-  pub ended-yes : (c : Command) → length v ≡ 0 → Words.Command c ≡ ended c (cut l)
-  unfolding ended
-  ended-yes c h = rw (word-none l v first h)
-
-  pub ended-not : (c : Command) → (length v ≡ 0 → ⊥) → Refused 11 ≡ ended c (cut l)
-  unfolding ended
-  ended-not c h = rw (word-some l v _ first refl h)
-
-  -- `warnings`, `warnings clear`, and any other word
-  pub warnings-alone : length v ≡ 0 → Words.Command (OfAxes Warnings) ≡ readWarnings (cut l)
-  unfolding readWarnings
-  warnings-alone h = rw (word-none l v first h)
-
-  module _ (h : length v ≡ 0 → ⊥) where
-    pub warnings-clear : {r : WordsRead} (t : List (List ℕ)) → t ≡ tailWords (cut l) → same v (text "clear") ≡ true
-        → r ≡ ended (OfAxes WarningsClear) t → r ≡ readWarnings (cut l)
-    unfolding readWarnings
-    warnings-clear t q e z = rw (word-some l v t first q h, e) z
-
-    pub warnings-other : same v (text "clear") ≡ false → Refused 11 ≡ readWarnings (cut l)
-    unfolding readWarnings
-    warnings-other e = rw (word-some l v _ first refl h, e)
-
-  -- no word at all, and a first word
-  pub command-none : length v ≡ 0 → Words.Command (OfAxes Nothing) ≡ readCommand (cut l)
-  unfolding readCommand
-  command-none h = rw (word-none l v first h)
-
-  pub command-first : (length v ≡ 0 → ⊥) → {r : WordsRead} (t : List (List ℕ)) → t ≡ tailWords (cut l)
-      → r ≡ meaningOf (Refused 10) v (firsts t) → r ≡ readCommand (cut l)
-  unfolding readCommand
-  command-first h t q z = rw (word-some l v t first q h) z
-
--- ---- words behind the first
 no-tail : (ws : List (List ℕ)) (w : List ℕ) (k : Numbered) → w ≡ headWord ws → tailWords ws ≡ [] → made k (readNumber w) ≡ oneNumber k ws
 unfolding oneNumber headWord tailWords readNumber
 no-tail [] w k p q = rw p
@@ -81,35 +41,112 @@ unfolding headWord tailWords
 some-tail [] v vs q = let z : _≡_ {A = ℕ} 0 1 = cc in absurd (omega arith)
 some-tail (w ∷ ws) v vs q = rw q
 
--- the words are ws, of which w is the first; those behind it are cut from l, and v is the first of these
-module _ (ws : List (List ℕ)) (w l v : List ℕ) (first : w ≡ headWord ws) (behind : cut l ≡ tailWords ws)
-    (second : v ≡ headWord (cut l)) where
-  two : (length v ≡ 0 → ⊥) → ws ≡ w ∷ v ∷ tailWords (cut l)
-  two h = rw first (some-tail ws v (tailWords (cut l)) (sym behind ∙ word-some l v _ second refl h))
+-- no word is left from `at` on, or some word is: a is where `start_of` finds that it may start
+module _ (s : List ℕ) (at : ℕ) {a : ℕ} (q : a ≡ startOf s at) (c : Command) where
+  pub ended-yes : length s ≤ a → Words.Command c 0 ≡ ended c (cut (drop at s))
+  unfolding ended
+  ended-yes l = rw (left-none s at q l)
 
-  pub number-alone : (k : Numbered) {n : NumberRead} {r : WordsRead} → length v ≡ 0 → n ≡ readNumber w → r ≡ made k n → r ≡ oneNumber k ws
-  number-alone k h e z = z ∙ rw e (no-tail ws w k first (sym behind ∙ word-none l v second h))
+  pub ended-not : a < length s → Refused 11 ≡ ended c (cut (drop at s))
+  unfolding ended
+  ended-not l = rw (left-some s at q l)
 
-  pub number-more : (k : Numbered) → (length v ≡ 0 → ⊥) → Refused 11 ≡ oneNumber k ws
-  unfolding oneNumber
-  number-more k h = rw (two h)
+-- ---- w is where `word_at` finds the first of the words from `at` on
+module _ (s : List ℕ) (at : ℕ) {w : Word} (is : w ≡ wordAt s at) where
+  abbrev words : List (List ℕ)
+  words = cut (drop at s)
 
-  pub store-one : {n : NumberRead} {r : WordsRead} → length v ≡ 0 → n ≡ readNumber w → r ≡ made With.Store n → r ≡ readStorepos ws
-  store-one h e z = z ∙ rw e (no-word ws w first (sym behind ∙ word-none l v second h))
+  abbrev first : List ℕ
+  first = take (w .end - w .start) (drop (w .start) s)
 
-  module _ (h : length v ≡ 0 → ⊥) (m u : List ℕ) (rest : cut m ≡ tailWords (cut l)) (third : u ≡ headWord (cut m)) where
-    pub store-more : (length u ≡ 0 → ⊥) → Refused 11 ≡ readStorepos ws
-    unfolding readStorepos
-    store-more k = rw (two h, ← rest, word-some m u _ third refl k)
+  abbrev rest : List (List ℕ)
+  rest = cut (drop (w .end) s)
 
-    store-two : (b : Bool) → length u ≡ 0 → same v (text "current") ≡ b
-        → readStorepos ws ≡ cond b (made With.StoreCurrent (readNumber w)) (storeAt (readNumber w) v)
-    unfolding readStorepos
-    store-two b k e = rw (two h, ← rest, word-none m u third k, e)
+  -- it is looked up in a table of what may follow
+  looked-up : (es : List (List ℕ) → List (Entry WordsRead)) (d : WordsRead) {r : WordsRead}
+      → r ≡ meaningOf d first (es rest) → r ≡ meaningOf d (headWord words) (es (tailWords words))
+  looked-up es d z = rw (← word-head s at is, ← word-tail s at is) z
 
-    module _ {n : NumberRead} (k : length u ≡ 0) (e : n ≡ readNumber w) where
-      pub store-current : {r : WordsRead} → same v (text "current") ≡ true → r ≡ made With.StoreCurrent n → r ≡ readStorepos ws
-      store-current b z = z ∙ ap (made With.StoreCurrent) e ∙ sym (store-two true k b)
+  pub move-word : {r : WordsRead} → r ≡ meaningOf (Refused 10) first (moves rest) → r ≡ readMove words
+  unfolding readMove
+  move-word z = looked-up moves (Refused 10) z
 
-      pub store-at : same v (text "current") ≡ false → storeAt n v ≡ readStorepos ws
-      store-at b = ap (λ (x : NumberRead). storeAt x v) e ∙ sym (store-two false k b)
+  pub parking-word : {r : WordsRead} → r ≡ meaningOf (Refused 11) first (parkings rest) → r ≡ readParking words
+  unfolding readParking
+  parking-word z = looked-up parkings (Refused 11) z
+
+  pub tools-word : {r : WordsRead} → r ≡ meaningOf (Refused 10) first (tools (w .end) rest) → r ≡ readTools (pastOf s at) words
+  unfolding readTools
+  tools-word z = rw (← word-past s at is) (looked-up (tools (w .end)) (Refused 10) z)
+
+  -- it is the name of a setting
+  pub get-word : {x : SettingRead} {r : WordsRead} → x ≡ readSetting first → r ≡ getOf x rest → r ≡ readGet words
+  unfolding readGet
+  get-word e z = rw (← word-head s at is, ← word-tail s at is, ← e) z
+
+  pub set-word : {x : SettingRead} {r : WordsRead} → x ≡ readSetting first → r ≡ setOf x rest → r ≡ readSet words
+  unfolding readSet
+  set-word e z = rw (← word-head s at is, ← word-tail s at is, ← e) z
+
+  -- there is none: `warnings` alone, and no word at all
+  pub warnings-alone : w .start ≡ w .end → Words.Command (OfAxes Warnings) 0 ≡ readWarnings words
+  unfolding readWarnings
+  warnings-alone h = rw (word-empty s at is h)
+
+  pub command-none : (p : ℕ) → w .start ≡ w .end → Words.Command (OfAxes Nothing) 0 ≡ readCommand p words
+  unfolding readCommand
+  command-none p h = rw (word-empty s at is h)
+
+  -- there is one: `warnings clear`, `warnings` with any other word, and a first word
+  module _ (h : w .start ≡ w .end → ⊥) where
+    pub warnings-clear : {r : WordsRead} → same first (text "clear") ≡ true → r ≡ ended (OfAxes WarningsClear) rest → r ≡ readWarnings words
+    unfolding readWarnings
+    warnings-clear e z = rw (word-full s at is h, e) z
+
+    pub warnings-other : same first (text "clear") ≡ false → Refused 11 ≡ readWarnings words
+    unfolding readWarnings
+    warnings-other e = rw (word-full s at is h, e)
+
+    pub command-first : {r : WordsRead} → r ≡ meaningOf (Refused 10) first (firsts (pastOf s (w .end)) rest)
+        → r ≡ readCommand (pastMany s at 2) words
+    unfolding readCommand pastMany
+    command-first z = rw (← word-past s at is, word-full s at is h) z
+
+  -- a is where `start_of` finds that a second word may start: the first one is a number and is the last
+  module _ {a : ℕ} (q : a ≡ startOf s (w .end)) (k : Numbered) where
+    pub number-alone : {n : NumberRead} {r : WordsRead} → length s ≤ a → n ≡ readNumber first → r ≡ made k n → r ≡ oneNumber k words
+    number-alone l e z = z ∙ rw e (no-tail words first k (word-head s at is) (sym (word-tail s at is) ∙ left-none s (w .end) q l))
+
+    pub number-more : a < length s → Refused 11 ≡ oneNumber k words
+    unfolding oneNumber
+    number-more l = rw (some-tail words _ _ (sym (word-tail s at is) ∙ left-some s (w .end) q l))
+
+  -- v is where `word_at` finds the second word
+  module _ {v : Word} (is-second : v ≡ wordAt s (w .end)) {n : NumberRead} (e : n ≡ readNumber first) where
+    abbrev second : List ℕ
+    second = take (v .end - v .start) (drop (v .start) s)
+
+    pub store-one : {r : WordsRead} → v .start ≡ v .end → r ≡ made With.Store n → r ≡ readStorepos words
+    store-one h z = z ∙ rw e (no-word words first (word-head s at is) (sym (word-tail s at is) ∙ word-empty s (w .end) is-second h))
+
+    -- a is where `start_of` finds that a third word may start
+    module _ (h : v .start ≡ v .end → ⊥) {a : ℕ} (q : a ≡ startOf s (v .end)) where
+      two : words ≡ first ∷ second ∷ cut (drop (v .end) s)
+      two = rw (word-head s at is)
+          (some-tail words second (cut (drop (v .end) s)) (sym (word-tail s at is) ∙ word-full s (w .end) is-second h))
+
+      pub store-more : a < length s → Refused 11 ≡ readStorepos words
+      unfolding readStorepos
+      store-more l = rw (two, left-some s (v .end) q l)
+
+      store-two : (b : Bool) → length s ≤ a → same second (text "current") ≡ b
+          → readStorepos words ≡ cond b (made With.StoreCurrent (readNumber first)) (storeAt (readNumber first) second)
+      unfolding readStorepos
+      store-two b l t = rw (two, left-none s (v .end) q l, t)
+
+      module _ (l : length s ≤ a) where
+        pub store-current : {r : WordsRead} → same second (text "current") ≡ true → r ≡ made With.StoreCurrent n → r ≡ readStorepos words
+        store-current t z = z ∙ ap (made With.StoreCurrent) e ∙ sym (store-two true l t)
+
+        pub store-at : same second (text "current") ≡ false → storeAt n second ≡ readStorepos words
+        store-at t = ap (λ (x : NumberRead). storeAt x second) e ∙ sym (store-two false l t)

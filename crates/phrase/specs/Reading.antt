@@ -1,5 +1,6 @@
 -- How a command's words are read: the command, or the refusal 10 or 11.
 -- 10 is given at a word that the table does not have, before any word behind it is looked at, and so before 11.
+-- p is the place where the words behind the second one begin: an echo carries these, and no other command carries any.
 use mathlib.Core.Bool.{cond}
 use mathlib.Core.List.{List, [], _∷_, _++_, map}
 use Prim.Native.Nat.{ℕ}
@@ -15,12 +16,11 @@ use Rattle.words.specs.Find.{Entry, _means_, meaningOf}
 use Rattle.command.specs.declared.Setting.{Setting}
 use Rattle.command.specs.declared.Setting.the-variants as Setting
 use Rattle.command.specs.declared.Target.the-variants.{Abs, Rel, Min, Max, Stored}
-use Rattle.command.specs.declared.AxisCommand.the-variants.{Nothing, Home, Stop, Estop, MoveTo, MoveVel, Get, Set, Storepos, StoreposAt, StoreposCurrent, Warnings, WarningsClear}
+use Rattle.command.specs.declared.AxisCommand.the-variants.{Nothing, Home, Stop, Estop, MoveTo, MoveVel, Storepos, StoreposAt, StoreposCurrent, Warnings, WarningsClear}
 use Rattle.command.specs.declared.DeviceCommand.the-variants.{ParkingState, Park, Unpark, Echo}
-use Rattle.command.specs.declared.DeviceCommand.the-variants as Device
 use Rattle.command.specs.declared.Command.{Command}
 use Rattle.command.specs.declared.Command.the-variants.{OfAxes, OfDevice}
-use Rattle.command.specs.Commands.{getCommand, setCommand}
+use Rattle.command.specs.Commands.{getCommand, setCommand, carriesWords}
 use Rattle.command.specs.Settings.{axisSettings, deviceSettings, nameOf, readOnly}
 use Rattle.phrase.specs.declared.SettingRead.{SettingRead}
 use Rattle.phrase.specs.declared.SettingRead.the-variants.{Is, Unknown}
@@ -32,7 +32,7 @@ use Rattle.phrase.specs.declared.WordsRead.the-variants as Words
 
 -- a command with no word behind it
 unfoldable pub ended : Command → List (List ℕ) → WordsRead
-ended c [] = Words.Command c
+ended c [] = Words.Command c 0
 ended c (w ∷ ws) = Refused BADDATA
 
 -- the command of a row that waits for its number
@@ -47,7 +47,7 @@ numbered (With.StoreAt m) n = OfAxes (StoreposAt m (position (n .0)))
 numbered With.StoreCurrent n = OfAxes (StoreposCurrent n)
 
 abbrev pub made : Numbered → NumberRead → WordsRead
-made k (Number.Value n) = Words.Command (numbered k n)
+made k (Number.Value n) = Words.Command (numbered k n) 0
 made k (Number.Refused p) = Refused BADDATA
 
 -- a row whose last word is its number: one word is left, and it is a number
@@ -128,34 +128,38 @@ unfoldable pub readParking : List (List ℕ) → WordsRead
 readParking ws = meaningOf (Refused BADDATA) (headWord ws) (parkings (tailWords ws))
 
 -- behind `tools`
-abbrev pub tools : List (List ℕ) → List (Entry WordsRead)
-tools ws =
+abbrev pub tools : ℕ → List (List ℕ) → List (Entry WordsRead)
+tools p ws =
     text "storepos" means readStorepos ws
     ∷ text "parking" means readParking ws
-    ∷ text "echo" means Words.Command (OfDevice Echo)
+    ∷ text "echo" means Words.Command (OfDevice Echo) p
     ∷ []
 
-unfoldable pub readTools : List (List ℕ) → WordsRead
-readTools ws = meaningOf (Refused BADCOMMAND) (headWord ws) (tools (tailWords ws))
+unfoldable pub readTools : ℕ → List (List ℕ) → WordsRead
+readTools p ws = meaningOf (Refused BADCOMMAND) (headWord ws) (tools p (tailWords ws))
 
 -- behind `warnings`
 unfoldable pub readWarnings : List (List ℕ) → WordsRead
-readWarnings [] = Words.Command (OfAxes Warnings)
+readWarnings [] = Words.Command (OfAxes Warnings) 0
 readWarnings (w ∷ ws) = cond (same w (text "clear")) (ended (OfAxes WarningsClear) ws) (Refused BADDATA)
 
 -- the first word
-abbrev pub firsts : List (List ℕ) → List (Entry WordsRead)
-firsts ws =
+abbrev pub firsts : ℕ → List (List ℕ) → List (Entry WordsRead)
+firsts p ws =
     text "home" means ended (OfAxes Home) ws
     ∷ text "stop" means ended (OfAxes Stop) ws
     ∷ text "estop" means ended (OfAxes Estop) ws
     ∷ text "move" means readMove ws
     ∷ text "get" means readGet ws
     ∷ text "set" means readSet ws
-    ∷ text "tools" means readTools ws
+    ∷ text "tools" means readTools p ws
     ∷ text "warnings" means readWarnings ws
     ∷ []
 
-unfoldable pub readCommand : List (List ℕ) → WordsRead
-readCommand [] = Words.Command (OfAxes Nothing)
-readCommand (w ∷ ws) = meaningOf (Refused BADCOMMAND) w (firsts ws)
+unfoldable pub readCommand : ℕ → List (List ℕ) → WordsRead
+readCommand p [] = Words.Command (OfAxes Nothing) 0
+readCommand p (w ∷ ws) = meaningOf (Refused BADCOMMAND) w (firsts p ws)
+
+-- "An echo command carries its words as a list": where a command's words begin, 0 where it carries none
+abbrev pub echoPlace : Command → ℕ → ℕ
+echoPlace c p = cond (carriesWords c) p 0

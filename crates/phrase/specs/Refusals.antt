@@ -70,7 +70,7 @@ badData (v ∷ ws) = not (any (fits (v ∷ ws)) table)
 
 -- document 01's number for what words are read as: "Accepted is 0"
 abbrev pub wordsNumber : WordsRead → ℕ
-wordsNumber (Words.Command c) = 0
+wordsNumber (Words.Command c p) = 0
 wordsNumber (Words.Refused n) = n
 
 -- "Checks run in the table's order and the first that applies wins."

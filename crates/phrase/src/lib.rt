@@ -13,9 +13,10 @@ use laws::BADDATA;
 use numbers::NumberRead;
 use units::Number;
 
-// What a command's words come to: the command, or the number of the refusal.
+// What a command's words come to: the command, and the place where the words that it carries begin, 0 where it carries none;
+// or the number of the refusal.
 pub enum WordsRead {
-    Command(Command),
+    Command(Command, usize),
     Refused(u8),
 }
 
@@ -69,7 +70,7 @@ impl Numbered {
         ensures { λ r. ⌜ r ≡ made self n ⌝ }
     {
         match n {
-            NumberRead::Value(v) => WordsRead::Command(self.with(v)),
+            NumberRead::Value(v) => WordsRead::Command(self.with(v), 0),
             NumberRead::Refused(_) => WordsRead::Refused(BADDATA),
         }
     }

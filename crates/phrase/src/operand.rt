@@ -14,17 +14,17 @@ use command::Command;
 use command::DeviceSetting;
 use command::Setting;
 use laws::BADDATA;
+use words::Word;
 use words::same_bytes;
 
 // The command c, where no word is left.
 pub fn ended_at(s: &[u8], at: usize, c: Command) -> WordsRead
     ensures { λ r. ⌜ r ≡ ended c (cut (drop at (now (s .entry)))) ⌝ }
 {
-    let w = words::first_word(s, at);
-    if w.len() == 0 {
-        WordsRead::Command(c)
-    } else {
+    if words::start_of(s, at) < s.len() {
         WordsRead::Refused(BADDATA)
+    } else {
+        WordsRead::Command(c, 0)
     }
 }
 
@@ -32,13 +32,11 @@ pub fn ended_at(s: &[u8], at: usize, c: Command) -> WordsRead
 pub fn one_number(s: &[u8], at: usize, k: Numbered) -> WordsRead
     ensures { λ r. ⌜ r ≡ oneNumber k (cut (drop at (now (s .entry)))) ⌝ }
 {
-    let w = words::first_word(s, at);
-    let next = words::past_word(s, at);
-    let v = words::first_word(s, next);
-    if v.len() == 0 {
-        return k.made(numbers::reading::read_number(w));
+    let Word { start, end } = words::word_at(s, at);
+    if words::start_of(s, end) < s.len() {
+        return WordsRead::Refused(BADDATA);
     }
-    WordsRead::Refused(BADDATA)
+    k.made(numbers::reading::read_number(&s[start..end]))
 }
 
 // The setting of the device that a word names.

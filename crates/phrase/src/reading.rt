@@ -2,7 +2,7 @@
 // The rules are in specs/Reading.antt; proofs/Rows.antt shows that just what is spelled is read.
 ghost use mathlib.Core.Path.{_≡_};
 ghost use lib.ListN.{drop};
-ghost use Rattle.words.specs.Cutting.{cut};
+ghost use Rattle.words.specs.Cutting.{cut, pastOf, pastMany};
 ghost use Rattle.words.specs.Find.{meaningOf};
 ghost use Rattle.phrase.specs.declared.WordsRead.the-variants.{Refused};
 ghost use Rattle.phrase.specs.Reading.{readWarnings, firsts, readCommand};
@@ -13,29 +13,26 @@ use command::AxisCommand;
 use command::Command;
 use laws::BADCOMMAND;
 use laws::BADDATA;
+use words::Word;
 use words::same_bytes;
 
 // The words behind `warnings`.
 fn read_warnings(s: &[u8], at: usize) -> WordsRead
     ensures { λ r. ⌜ r ≡ readWarnings (cut (drop at (now (s .entry)))) ⌝ }
 {
-    let w = words::first_word(s, at);
-    if w.len() == 0 {
-        return WordsRead::Command(Command::OfAxes(AxisCommand::Warnings));
+    let Word { start, end } = words::word_at(s, at);
+    if start == end {
+        return WordsRead::Command(Command::OfAxes(AxisCommand::Warnings), 0);
     }
-    if same_bytes(w, b"clear") {
-        return ended_at(
-            s,
-            words::past_word(s, at),
-            Command::OfAxes(AxisCommand::WarningsClear),
-        );
+    if same_bytes(&s[start..end], b"clear") {
+        return ended_at(s, end, Command::OfAxes(AxisCommand::WarningsClear));
     }
     WordsRead::Refused(BADDATA)
 }
 
 // Behind the first word w.
 fn first_of(s: &[u8], at: usize, w: &[u8]) -> WordsRead
-    ensures { λ r. ⌜ r ≡ meaningOf (Refused 10) (now (w .entry)) (firsts (cut (drop at (now (s .entry))))) ⌝ }
+    ensures { λ r. ⌜ r ≡ meaningOf (Refused 10) (now (w .entry)) (firsts (pastOf (now (s .entry)) at) (cut (drop at (now (s .entry))))) ⌝ }
 {
     if same_bytes(w, b"home") {
         return ended_at(s, at, Command::OfAxes(AxisCommand::Home));
@@ -64,14 +61,14 @@ fn first_of(s: &[u8], at: usize, w: &[u8]) -> WordsRead
     WordsRead::Refused(BADCOMMAND)
 }
 
-// The words of a command, from a place on.
+// The words of a command, from a place on; an echo's words stand behind the first two.
 pub fn read_command(s: &[u8], at: usize) -> WordsRead
-    ensures read { λ r. ⌜ r ≡ readCommand (cut (drop at (now (s .entry)))) ⌝ }
+    ensures read { λ r. ⌜ r ≡ readCommand (pastMany (now (s .entry)) at 2) (cut (drop at (now (s .entry)))) ⌝ }
     ensures number { λ r. ⌜ wordsNumber r ≡ wordsRefusal (cut (drop at (now (s .entry)))) ⌝ }
 {
-    let w = words::first_word(s, at);
-    if w.len() == 0 {
-        return WordsRead::Command(Command::OfAxes(AxisCommand::Nothing));
+    let Word { start, end } = words::word_at(s, at);
+    if start == end {
+        return WordsRead::Command(Command::OfAxes(AxisCommand::Nothing), 0);
     }
-    first_of(s, words::past_word(s, at), w)
+    first_of(s, end, &s[start..end])
 }

@@ -2,7 +2,7 @@
 // The rules are in specs/Reading.antt.
 ghost use mathlib.Core.Path.{_≡_};
 ghost use lib.ListN.{drop};
-ghost use Rattle.words.specs.Cutting.{cut};
+ghost use Rattle.words.specs.Cutting.{cut, pastOf};
 ghost use Rattle.words.specs.Find.{meaningOf};
 ghost use Rattle.phrase.specs.declared.WordsRead.the-variants.{Refused};
 ghost use Rattle.phrase.specs.Reading.{storeAt, readStorepos, parkings, readParking, tools, readTools};
@@ -14,6 +14,7 @@ use command::DeviceCommand;
 use laws::BADCOMMAND;
 use laws::BADDATA;
 use numbers::NumberRead;
+use words::Word;
 use words::same_bytes;
 
 // `tools storepos` with its number n and a position.
@@ -30,17 +31,19 @@ fn store_at(n: NumberRead, v: &[u8]) -> WordsRead
 fn read_storepos(s: &[u8], at: usize) -> WordsRead
     ensures { λ r. ⌜ r ≡ readStorepos (cut (drop at (now (s .entry)))) ⌝ }
 {
-    let n = numbers::reading::read_number(words::first_word(s, at));
-    let second = words::past_word(s, at);
-    let v = words::first_word(s, second);
-    if v.len() == 0 {
+    let Word { start, end } = words::word_at(s, at);
+    let n = numbers::reading::read_number(&s[start..end]);
+    let Word {
+        start: from,
+        end: to,
+    } = words::word_at(s, end);
+    if from == to {
         return Numbered::Store.made(n);
     }
-    let third = words::past_word(s, second);
-    let u = words::first_word(s, third);
-    if u.len() != 0 {
+    if words::start_of(s, to) < s.len() {
         return WordsRead::Refused(BADDATA);
     }
+    let v = &s[from..to];
     if same_bytes(v, b"current") {
         return Numbered::StoreCurrent.made(n);
     }
@@ -67,13 +70,13 @@ fn parking_of(s: &[u8], at: usize, w: &[u8]) -> WordsRead
 fn read_parking(s: &[u8], at: usize) -> WordsRead
     ensures { λ r. ⌜ r ≡ readParking (cut (drop at (now (s .entry)))) ⌝ }
 {
-    let w = words::first_word(s, at);
-    parking_of(s, words::past_word(s, at), w)
+    let Word { start, end } = words::word_at(s, at);
+    parking_of(s, end, &s[start..end])
 }
 
 // Behind `tools` and the word w.
 fn tool_of(s: &[u8], at: usize, w: &[u8]) -> WordsRead
-    ensures { λ r. ⌜ r ≡ meaningOf (Refused 10) (now (w .entry)) (tools (cut (drop at (now (s .entry))))) ⌝ }
+    ensures { λ r. ⌜ r ≡ meaningOf (Refused 10) (now (w .entry)) (tools at (cut (drop at (now (s .entry))))) ⌝ }
 {
     if same_bytes(w, b"storepos") {
         return read_storepos(s, at);
@@ -82,15 +85,15 @@ fn tool_of(s: &[u8], at: usize, w: &[u8]) -> WordsRead
         return read_parking(s, at);
     }
     if same_bytes(w, b"echo") {
-        return WordsRead::Command(Command::OfDevice(DeviceCommand::Echo));
+        return WordsRead::Command(Command::OfDevice(DeviceCommand::Echo), at);
     }
     WordsRead::Refused(BADCOMMAND)
 }
 
 // The words behind `tools`.
 pub fn read_tools(s: &[u8], at: usize) -> WordsRead
-    ensures { λ r. ⌜ r ≡ readTools (cut (drop at (now (s .entry)))) ⌝ }
+    ensures { λ r. ⌜ r ≡ readTools (pastOf (now (s .entry)) at) (cut (drop at (now (s .entry)))) ⌝ }
 {
-    let w = words::first_word(s, at);
-    tool_of(s, words::past_word(s, at), w)
+    let Word { start, end } = words::word_at(s, at);
+    tool_of(s, end, &s[start..end])
 }

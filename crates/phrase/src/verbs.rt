@@ -19,6 +19,7 @@ use command::DeviceCommand;
 use command::Setting;
 use command::Target;
 use laws::BADCOMMAND;
+use words::Word;
 use words::same_bytes;
 
 // Behind `move` and the word w.
@@ -50,8 +51,8 @@ fn move_of(s: &[u8], at: usize, w: &[u8]) -> WordsRead
 pub fn read_move(s: &[u8], at: usize) -> WordsRead
     ensures { λ r. ⌜ r ≡ readMove (cut (drop at (now (s .entry)))) ⌝ }
 {
-    let w = words::first_word(s, at);
-    move_of(s, words::past_word(s, at), w)
+    let Word { start, end } = words::word_at(s, at);
+    move_of(s, end, &s[start..end])
 }
 
 // `get` of a setting, of the setting's scope.
@@ -78,8 +79,8 @@ fn get_of(s: &[u8], at: usize, x: SettingRead) -> WordsRead
 pub fn read_get(s: &[u8], at: usize) -> WordsRead
     ensures { λ r. ⌜ r ≡ readGet (cut (drop at (now (s .entry)))) ⌝ }
 {
-    let x = read_setting(words::first_word(s, at));
-    get_of(s, words::past_word(s, at), x)
+    let Word { start, end } = words::word_at(s, at);
+    get_of(s, end, read_setting(&s[start..end]))
 }
 
 // Behind `set` and the name of x.
@@ -101,6 +102,6 @@ fn set_of(s: &[u8], at: usize, x: SettingRead) -> WordsRead
 pub fn read_set(s: &[u8], at: usize) -> WordsRead
     ensures { λ r. ⌜ r ≡ readSet (cut (drop at (now (s .entry)))) ⌝ }
 {
-    let x = read_setting(words::first_word(s, at));
-    set_of(s, words::past_word(s, at), x)
+    let Word { start, end } = words::word_at(s, at);
+    set_of(s, end, read_setting(&s[start..end]))
 }

@@ -4,3 +4,4 @@ pub mod Lists
 pub mod Lengths
 pub mod Texts
 pub mod Room
+pub mod Telling

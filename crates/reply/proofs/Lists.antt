@@ -1,4 +1,4 @@
--- The loops of `put_values`, `put_warnings` and `put_echo`: which words are left at each turn.
+-- The loops of `put_listed`, `put_warnings` and `put_echo`: which words are left at each turn.
 -- Assumes nothing.
 use mathlib.Core.Path.{_≡_}
 use mathlib.Core.Bool.{cond}

@@ -83,3 +83,4 @@ pub fn put_end(buf: &mut [u8], at: usize, sum: bool) -> usize
 }
 
 pub mod data;
+pub mod told;

@@ -3,9 +3,9 @@
 use mathlib.Core.Path.{_≡_, refl}
 use mathlib.Core.Bool.{Bool, true, false, cond}
 use mathlib.Core.List.{List, [], _∷_}
-use Prim.Native.Nat.{ℕ}
+use Prim.Native.Nat.{ℕ, suc}
 use lib.Dec.{ltb}
-use lib.ListN.{take, drop}
+use lib.ListN.{length, take, drop}
 use Rattle.laws.specs.Refusals.{Refusal, firstOf}
 use Rattle.laws.specs.Text.{text, same}
 use Rattle.laws.proofs.Each.{Each, none, more}
@@ -14,7 +14,7 @@ use Rattle.numbers.specs.declared.NumberRead.{NumberRead}
 use Rattle.numbers.specs.declared.NumberRead.the-variants as Number
 use Rattle.numbers.specs.declared.UnsignedRead.{UnsignedRead}
 use Rattle.numbers.specs.declared.UnsignedRead.the-variants as Unsigned
-use Rattle.words.specs.Cutting.{cut, headWord, tailWords}
+use Rattle.words.specs.Cutting.{cut, headWord, tailWords, pastMany}
 use Rattle.words.specs.Find.{Entry, meaningOf}
 use Rattle.command.specs.Settings.{readOnly}
 use Rattle.command.specs.declared.Target.the-variants.{Min, Max}
@@ -82,7 +82,7 @@ device-rejects d k c z =
 
 -- ---- the reader's: of words
 abbrev WordsReject : WordsRead → Type 0
-WordsReject (Words.Command c) = Unit
+WordsReject (Words.Command c from) = Unit
 WordsReject (Words.Refused m) = Rejecting m
 
 either : (t : Bool) (a b : WordsRead) → WordsReject a → WordsReject b → WordsReject (cond t a b)
@@ -160,9 +160,9 @@ parking-rejects ws =
     (more (ended-rejects (OfDevice DeviceCommand.ParkingState) t)
     (more (ended-rejects (OfDevice DeviceCommand.Park) t) (more (ended-rejects (OfDevice DeviceCommand.Unpark) t) none)))
 
-tools-rejects : (ws : List (List ℕ)) → WordsReject (readTools ws)
+tools-rejects : (p : ℕ) (ws : List (List ℕ)) → WordsReject (readTools p ws)
 unfolding readTools
-tools-rejects ws =
+tools-rejects p ws =
     let t = tailWords ws in
     meaning-rejects (headWord ws) (Words.Refused 10) bad-command
     (more (storepos-rejects t) (more (parking-rejects t) (more tt none)))
@@ -173,10 +173,10 @@ warnings-rejects [] = tt
 warnings-rejects (w ∷ ws) = either (same w (text "clear")) (ended (OfAxes AxisCommand.WarningsClear) ws) (Words.Refused 11)
     (ended-rejects (OfAxes AxisCommand.WarningsClear) ws) bad-data
 
-command-rejects : (ws : List (List ℕ)) → WordsReject (readCommand ws)
+command-rejects : (p : ℕ) (ws : List (List ℕ)) → WordsReject (readCommand p ws)
 unfolding readCommand
-command-rejects [] = tt
-command-rejects (w ∷ ws) =
+command-rejects p [] = tt
+command-rejects p (w ∷ ws) =
     meaning-rejects w (Words.Refused 10) bad-command
     (more (ended-rejects (OfAxes AxisCommand.Home) ws)
     (more (ended-rejects (OfAxes AxisCommand.Stop) ws)
@@ -184,36 +184,38 @@ command-rejects (w ∷ ws) =
     (more (move-rejects ws)
     (more (get-rejects ws)
     (more (set-rejects ws)
-    (more (tools-rejects ws)
+    (more (tools-rejects p ws)
     (more (warnings-rejects ws) none))))))))
 
 -- ---- of a line: where it is not met with silence
-words-line : (n k skip : ℕ) (w : WordsRead) → WordsReject w → Rejects Rejecting (Addressed n k skip w)
-words-line n k skip (Words.Command c) h = tt
-words-line n k skip (Words.Refused m) h = h
+words-line : (n k end : ℕ) (w : WordsRead) → WordsReject w → Rejects Rejecting (Addressed n k end w)
+words-line n k end (Words.Command c from) h = tt
+words-line n k end (Words.Refused m) h = h
 
 one-line : (t : Bool) (a b : LineRead) → Rejects Rejecting a → Rejects Rejecting b → Rejects Rejecting (cond t a b)
 one-line true a b h k = h
 one-line false a b h k = k
 
-axis-rejects : (n : ℕ) (ws : List (List ℕ)) → Rejects Rejecting (axisOf n ws)
-unfolding axisOf
-axis-rejects n ws =
-    let k = axisDigit (headWord ws) in
-    one-line (ltb k 10) (Addressed n k 2 (readCommand (tailWords ws))) (Addressed n 0 1 (readCommand ws))
-    (words-line n k 2 (readCommand (tailWords ws)) (command-rejects (tailWords ws)))
-    (words-line n 0 1 (readCommand ws) (command-rejects ws))
+module _ (end : ℕ) where
+  axis-rejects : (past : ℕ → ℕ) (n : ℕ) (ws : List (List ℕ)) → Rejects Rejecting (axisOf n end past ws)
+  unfolding axisOf
+  axis-rejects past n ws =
+      let k = axisDigit (headWord ws) in
+      one-line (ltb k 10) (Addressed n k end (readCommand (past 3) (tailWords ws))) (Addressed n 0 end (readCommand (past 2) ws))
+      (words-line n k end (readCommand (past 3) (tailWords ws)) (command-rejects (past 3) (tailWords ws)))
+      (words-line n 0 end (readCommand (past 2) ws) (command-rejects (past 2) ws))
 
-address-rejects : (u : UnsignedRead) (ws : List (List ℕ)) → Rejects Rejecting (addressOf u ws)
-address-rejects (Unsigned.Refused p) ws = tt
-address-rejects (Unsigned.Value n) ws = axis-rejects n ws
+  address-rejects : (u : UnsignedRead) (past : ℕ → ℕ) (ws : List (List ℕ)) → Rejects Rejecting (addressOf u end past ws)
+  address-rejects (Unsigned.Refused p) past ws = tt
+  address-rejects (Unsigned.Value n) past ws = axis-rejects past n ws
 
-words-reject : (ws : List (List ℕ)) → Rejects Rejecting (readWords ws)
-unfolding readWords
-words-reject ws =
-    let u = readAddress (headWord ws) in
-    one-line (startsNumber (headWord ws)) (addressOf u (tailWords ws)) (Addressed 0 0 0 (readCommand ws))
-    (address-rejects u (tailWords ws)) (words-line 0 0 0 (readCommand ws) (command-rejects ws))
+  words-reject : (past : ℕ → ℕ) (ws : List (List ℕ)) → Rejects Rejecting (readWords end past ws)
+  unfolding readWords
+  words-reject past ws =
+      let u = readAddress (headWord ws) in
+      let behind : ℕ → ℕ = λ i. past (suc i) in
+      one-line (startsNumber (headWord ws)) (addressOf u end behind (tailWords ws)) (Addressed 0 0 end (readCommand (past 2) ws))
+      (address-rejects u behind (tailWords ws)) (words-line 0 0 end (readCommand (past 2) ws) (command-rejects (past 2) ws))
 
 pub line-rejects : (l : List ℕ) → Rejects Rejecting (readLine l)
 unfolding readLine
@@ -221,4 +223,4 @@ line-rejects l = go (frameOf l)
   where
     go : (f : Frame) → Rejects Rejecting (framed l f)
     go (Frame.Refused n) = tt
-    go (Frame.Content n) = words-reject (cut (take n (drop 1 l)))
+    go (Frame.Content n) = words-reject (length (take (suc n) l)) (pastMany (take (suc n) l) 1) (cut (drop 1 (take (suc n) l)))

@@ -9,8 +9,6 @@ use lib.Dec.{eqb}
 use lib.ListN.{length, take, drop}
 use lib.Seq.{take-at}
 use Rattle.laws.proofs.Bools.{clash}
-use Rattle.command.specs.Commands.{echoOf}
-use Rattle.line.specs.Reading.{wordsOf}
 use Rattle.device.specs.declared.Device.{Device}
 use Rattle.device.specs.Good.{good}
 use Rattle.rules.specs.Effects.{next}
@@ -20,16 +18,15 @@ use Rattle.view.specs.View.{headOf}
 use Rattle.view.specs.Data.{dataOf}
 use Rattle.carriage.specs.Step.{Stepped, silent, written, wantsSum, replyOf, rejected, accepted, step}
 use Rattle.carriage.proofs.Fits.{data-fits}
-use Rattle.carriage.proofs.Replies.{good-count, shown-digit}
+use Rattle.rules.proofs.GoodStays.{good-count}
+use Rattle.carriage.proofs.Replies.{shown-digit}
 use Rattle.carriage.proofs.Demands.{each-answer, every-answer, good-goes-on}
-use Rattle.carriage.proofs.Room.{content-of}
 use Rattle.host_reader.specs.Spelling.{Data}
 use Rattle.host_reader.specs.Reading.{field, readReply}
 use Rattle.host_reader.specs.declared.ReplyRead.the-variants.{Reply}
 use Rattle.host_reader.proofs.ReadsBack.{heardOf, reads-back}
-use Rattle.roundtrip.proofs.Texts.{each-drop}
 use Rattle.roundtrip.proofs.Rejecting.{Rejecting, bad-command, bad-data, bad-axis, device-only, no-access, parked, status-busy, name-data, device-rejects, line-rejects}
-use Rattle.roundtrip.proofs.ReadWords.{line-words, echo-words}
+use Rattle.roundtrip.proofs.ReadWords.{carried-words}
 use Rattle.roundtrip.proofs.Shown.{good-address, data-said}
 use Rattle.roundtrip.proofs.Place.{data-stands}
 
@@ -52,7 +49,7 @@ pub record Understood (s : Stepped) : Type 0 where
 replies-good : (d : Device) (l b : List ℕ) → (step d l b .answer .length ≡ 0 → ⊥) → good d ≡ true
 unfolding silent
 replies-good d l b = every-answer (λ s. (s .answer .length ≡ 0 → ⊥) → good d ≡ true) d l b (λ h. absurd (h refl)) (λ n k g h. g)
-    (λ k skip c g e h. g)
+    (λ k c es g e w h. g)
 
 -- ---- one reply
 module _ (n : ℕ) (d : Device) (k : ℕ) (ok : Bool) (words b : List ℕ) (g : good d ≡ true) (said : Data words) (short : length words ≤ 74)
@@ -89,14 +86,12 @@ pub reply-reads-back : (d : Device) (l b : List ℕ) → length (d .axes) ≡ 4 
 unfolding silent rejected accepted written
 reply-reads-back d l b four h =
     let good-next = good-goes-on d l b (replies-good d l b h) in
-    let s = content-of l in
     each-answer (λ s. (s .answer .length ≡ 0 → ⊥) → good (s .answer .next) ≡ true → Understood s) Rejecting d l b (λ h. absurd (h refl))
     (λ n k r g h after. reply-understood n d k false (refusalName n) b after (name-data r) (omega (arith, refusal-length n)) (not-zero r)
     (λ e. refl))
-    (λ k skip c g e h after.
-    reply-understood 0 (next d k c) k true (dataOf d k (echoOf c (drop skip (wordsOf l))) c) b after
-    (data-said d k c four g e (echo-words c (each-drop skip (line-words l))))
-    (rw (s .cuts) (data-fits d k c (s .bytes) skip g (good-count d g) e (s .short)))
+    (λ k c es g e w h after.
+    reply-understood 0 (next d k c) k true (dataOf d k es c) b after (data-said d k c four g e (carried-words l w))
+    (data-fits d k c es l g e w)
     refl
     (λ e. clash refl e))
     (device-rejects d)

@@ -38,7 +38,7 @@ use Rattle.command.specs.declared.kinds.Data.{Data as Kind}
 use Rattle.command.specs.declared.kinds.Data.the-variants as Kind
 use Rattle.command.specs.Forms.{formOf}
 use Rattle.command.specs.Commands.{demands}
-use Rattle.carriage.proofs.Replies.{good-count}
+use Rattle.rules.proofs.GoodStays.{good-count}
 use Rattle.phrase.proofs.Written.{word-of}
 use Rattle.roundtrip.proofs.Texts.{one-data, decimal-word, values-data, list-data, echoed-data}
 

@@ -57,7 +57,7 @@ unfolding silent rejected accepted written
 silent-small d l b =
     every-answer (λ s. s .answer .length ≡ 0 → s .answer .number < 100) d l b (λ h. omega (arith, silence-small d l b))
     (λ n k g h. absurd (omega (arith, reply-some d k false (refusalName n))))
-    (λ k skip c g e h. omega arith)
+    (λ k c es g e w h. omega arith)
 
 line-short : (d : Device) (p : List ℕ) → length (lineTurn d p .prints) ≤ 96
 unfolding lineTurn answered text

@@ -16,7 +16,9 @@ use Rattle.command.specs.Commands.{demands}
 use Rattle.device.specs.declared.Device.{Device}
 use Rattle.device.specs.Record.{value}
 use Rattle.reply.specs.Data.{values, warningList, echoed}
-use Rattle.view.specs.View.{valuesOf, warningsOf}
+use Rattle.reply.specs.declared.told.Told.{Told}
+use Rattle.reply.specs.declared.told.Told.the-variants as Told
+use Rattle.view.specs.View.{valuesOf, warningsOf, listedFor}
 use Rattle.view.specs.declared.Value.the-variants as Value
 
 -- "setting's" scope: the values of the axes, or the value of the device
@@ -40,3 +42,18 @@ textOf d k ws f Words = echoed ws
 
 unfoldable pub dataOf : Device → ℕ → List (List ℕ) → Command → List ℕ
 dataOf d k ws c = textOf d k ws (formOf c) (demands c .reply)
+
+-- what is told of a setting, and of each kind of data: the value that is taken out of the record for that text
+-- (proofs/Telling.antt); the words of an echo stand in the line from `from` to `end`
+abbrev pub settingTold : Device → ℕ → Setting → Told
+settingTold d k (OfAxis s) = Told.Values (listedFor (Value.Of s) d k)
+settingTold d k (OfDevice s) = Told.One (value s d)
+
+abbrev pub toldOf : Device → ℕ → Form → Data → ℕ → ℕ → Told
+toldOf d k f Nought from end = Told.Nought
+toldOf d k f Values from end = settingTold d k (f .setting)
+toldOf d k f Stored from end = Told.Values (listedFor (Value.Stored (f .first)) d k)
+toldOf d k f Position from end = Told.Values (listedFor Value.Pos d k)
+toldOf d k f Active from end = Told.Active (warningsOf d k)
+toldOf d k f Parked from end = Told.Parked (d .parked)
+toldOf d k f Words from end = Told.Words from end

@@ -1,18 +1,12 @@
-// What a reply shows of a record: its head, and the values of the axes that a number means; in data.rt the data of each kind.
+// What a reply shows of a record: its head, and the values of the axes that a number means; in data.rt what is told of each kind.
 // specs/View.antt and specs/Data.antt say it in document 01's words.
 ghost use mathlib.Core.Path.{_≡_};
-ghost use mathlib.Core.List.{map};
-ghost use Prim.Native.Nat.{_+_, _≤_};
-ghost use lib.ListN.{length, take, drop};
-ghost use Rattle.buffer.specs.Wrote.{Wrote};
-ghost use Rattle.reply.specs.Data.{values};
-ghost use Rattle.view.specs.View.{shownAxis, headOf, valueIn, valuesOf};
+ghost use Rattle.view.specs.View.{shownAxis, headOf, valueIn, listedFor};
 use axis::Axis;
-use buffer::put_byte;
-use buffer::put_signed;
 use command::AxisSetting;
 use device::Device;
 use reply::Head;
+use reply::told::Listed;
 use units::Number;
 
 // What is listed of an axis.
@@ -53,33 +47,20 @@ fn value_of(a: Axis, v: Value) -> Number
     }
 }
 
-fn put_list(buf: &mut [u8], at: usize, axes: [Axis; 4], v: Value, from: usize, many: usize) -> usize
-    requires { ⌜ from + many ≤ 4 ⌝ }
-    ensures { λ r. ⌜ (length axes ≡ 4) × Wrote (now (buf .entry)) at (values (map (valueIn v) (take many (drop from axes)))) (now (buf .exit)) r ⌝ }
-{
-    if many == 0 {
-        return at;
-    }
-    let first = axes[from];
-    let mut next = put_signed(buf, at, value_of(first, v));
-    let mut n: usize = 1;
-    while n < many {
-        let gap = put_byte(buf, next, b' ');
-        let i = from + n;
-        let a = axes[i];
-        next = put_signed(buf, gap, value_of(a, v));
-        n = n + 1;
-    }
-    next
-}
-
 // The values of the axes that k means.
-pub fn put_values(buf: &mut [u8], at: usize, d: Device, k: u64, v: Value) -> usize
-    ensures { λ r. ⌜ Wrote (now (buf .entry)) at (values (valuesOf v d k)) (now (buf .exit)) r ⌝ }
+pub fn listed(d: Device, k: u64, v: Value) -> Listed
+    ensures { λ r. ⌜ r ≡ listedFor v d k ⌝ }
 {
     let axes = d.axes;
     let p = d.stretch(k);
-    put_list(buf, at, axes, v, p.from, p.many)
+    Listed {
+        from: p.from,
+        many: p.many,
+        first: value_of(axes[0], v),
+        second: value_of(axes[1], v),
+        third: value_of(axes[2], v),
+        fourth: value_of(axes[3], v),
+    }
 }
 
 pub mod data;

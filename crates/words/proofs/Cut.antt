@@ -1,4 +1,4 @@
--- How `cut` goes byte by byte; and the first word from a place on, with the words behind it, as `next_word` finds it.
+-- How `cut` goes byte by byte; and the first word from a place on, with the words behind it, as `next_word` and `word_at` find it.
 -- Assumes nothing.
 use mathlib.Core.Path.{_≡_, refl, sym, ap, _∙_}
 use mathlib.Core.Logic.{⊎-elim}
@@ -13,10 +13,11 @@ use lib.Seq.{drop-drop, drop-cons, getD-drop}
 use Rattle.laws.specs.Lists.{span}
 use Rattle.laws.proofs.Order.{lt-or-le, eq-or-ne}
 use Rattle.laws.proofs.Span.{span-yes, span-not, span-none, span-le}
-use Rattle.words.specs.Cutting.{isSpace, noSpace, begins, grow, cut, startOf, endOf, nextOf, headWord, tailWords, pastOf}
+use Rattle.words.specs.Cutting.{isSpace, noSpace, begins, grow, cut, startOf, endOf, nextOf, wordAt, headWord, tailWords, pastOf, pastMany}
 use Rattle.words.specs.declared.Next.{Next}
 use Rattle.words.specs.declared.Next.the-variants.{Word, End}
-use Rattle.words.proofs.Space.{space-yes, space-not, other-yes, other-not, next-end, next-word}
+use Rattle.words.specs.declared.Word.{Word as Place}
+use Rattle.words.proofs.Space.{space-yes, space-not, other-yes, other-not, next-end, next-word, at-end, at-word}
 
 -- ---- the steps of `cut`
 pub cut-space : (s : List ℕ) → cut (32 ∷ s) ≡ cut s
@@ -88,6 +89,14 @@ part-of s at a e p q h =
     let here : cut (drop a s) ≡ take (e - a) (drop a s) ∷ cut (drop e s) = rw (d, width, place, ← drop-drop n (suc a) s) (cut-take c t k) in
     record { from = omega arith; some = omega arith; within = omega arith; words = sym (skip-at s at) ∙ rw (← p) here }
 
+-- the first word by its first byte, where one is left: it goes on up to the next space
+pub head-at : (s : List ℕ) (at : ℕ) {a : ℕ} → a ≡ startOf s at → a < length s
+    → headWord (cut (drop at s)) ≡ getD s a 0 ∷ take (span noSpace (drop (suc a) s)) (drop (suc a) s)
+unfolding headWord
+head-at s at {a} p h =
+    let k : getD s a 0 ≡ 32 → ⊥ = rw p (front-at s at) in
+    rw (← skip-at s at, ← p, drop-cons s a 0 h, cut-take (getD s a 0) (drop (suc a) s) k)
+
 none-of : (s : List ℕ) (at : ℕ) → length s ≤ startOf s at → cut (drop at s) ≡ []
 none-of s at h = sym (skip-at s at) ∙ ap cut (drop-of-length-le s h) ∙ cut-none
 
@@ -111,14 +120,6 @@ module _ (s : List ℕ) (at : ℕ) {r : Next} (q : r ≡ nextOf s at) where
   unfolding headWord
   head-none h = rw (found-end h)
 
-  pub tail-none : r ≡ End → cut (drop at s) ≡ tailWords (cut (drop at s))
-  unfolding tailWords
-  tail-none h = rw (found-end h)
-
-  pub past-none : r ≡ End → at ≡ pastOf s at
-  unfolding pastOf
-  past-none h = rw (sym q ∙ h)
-
   module _ (a e : ℕ) (h : r ≡ Word a e) where
     pub head-some : take (e - a) (drop a s) ≡ headWord (cut (drop at s))
     unfolding headWord
@@ -127,10 +128,6 @@ module _ (s : List ℕ) (at : ℕ) {r : Next} (q : r ≡ nextOf s at) where
     pub tail-some : cut (drop e s) ≡ tailWords (cut (drop at s))
     unfolding tailWords
     tail-some = rw (found-word a e h .words)
-
-    pub past-some : e ≡ pastOf s at
-    unfolding pastOf
-    past-some = rw (sym q ∙ h)
 
 -- no word is empty, so an empty first word says that there is none
 grown : (c : ℕ) (ws : List (List ℕ)) → length (headWord (grow c ws)) ≡ 0 → ⊥
@@ -162,13 +159,95 @@ word-none l v e h = head-empty l (rw e at h)
 pub word-some : (l v : List ℕ) (t : List (List ℕ)) → v ≡ headWord (cut l) → t ≡ tailWords (cut l) → (length v ≡ 0 → ⊥) → cut l ≡ v ∷ t
 word-some l v t e q h = rw (e, q) (head-full (cut l) (rw e at h))
 
+-- a is where `start_of` finds that a word may start: no word is left there, or one is
+module _ (s : List ℕ) (at : ℕ) {a : ℕ} (q : a ≡ startOf s at) where
+  pub left-none : length s ≤ a → cut (drop at s) ≡ []
+  left-none l = none-of s at (rw q at l)
+
+  pub left-some : a < length s → cut (drop at s) ≡ headWord (cut (drop at s)) ∷ tailWords (cut (drop at s))
+  unfolding headWord tailWords
+  left-some l = rw (part-of s at a (endOf s a) q refl l .words)
+
+-- ---- what the answer w of `word_at` says
+record Stands (s : List ℕ) (at : ℕ) (w : Place) : Type 0 where
+  whole : w .start ≤ w .end
+  within : w .end ≤ length s
+  head : take (w .end - w .start) (drop (w .start) s) ≡ headWord (cut (drop at s))
+  tail : cut (drop (w .end) s) ≡ tailWords (cut (drop at s))
+
+stands-none : (s : List ℕ) (at : ℕ) → length s ≤ startOf s at → Stands s at (wordAt s at)
+unfolding headWord tailWords
+stands-none s at l =
+    let n = none-of s at l in
+    let d : drop (length s) s ≡ [] = drop-of-length-le s {i = length s} (omega arith) in
+    let w : length s - length s ≡ 0 = omega arith in
+    rw (at-end s at (startOf s at) refl l)
+    (record { whole = omega arith; within = omega arith; head = rw (n, w); tail = rw (n, d, cut-none) })
+
+stands-some : (s : List ℕ) (at : ℕ) → startOf s at < length s → Stands s at (wordAt s at)
+unfolding headWord tailWords
+stands-some s at l =
+    let a = startOf s at in
+    let p = part-of s at a (endOf s a) refl refl l in
+    rw (at-word s at a refl l) (record { whole = omega (arith, p); within = p .within; head = rw (p .words); tail = rw (p .words) })
+
+stands : (s : List ℕ) (at : ℕ) → Stands s at (wordAt s at)
+stands s at = ⊎-elim (stands-some s at) (stands-none s at) (lt-or-le (startOf s at) (length s))
+
+module _ (s : List ℕ) (at : ℕ) {w : Place} (q : w ≡ wordAt s at) where
+  pub word-whole : w .start ≤ w .end
+  word-whole = rw q (stands s at .whole)
+
+  pub word-within : w .end ≤ length s
+  word-within = rw q (stands s at .within)
+
+  pub word-head : take (w .end - w .start) (drop (w .start) s) ≡ headWord (cut (drop at s))
+  word-head = rw q (stands s at .head)
+
+  pub word-tail : cut (drop (w .end) s) ≡ tailWords (cut (drop at s))
+  word-tail = rw q (stands s at .tail)
+
+  -- where both places are one, there is no word, and else there is one
+  pub word-empty : w .start ≡ w .end → cut (drop at s) ≡ []
+  unfolding headWord
+  word-empty e =
+      let z : w .end - w .start ≡ 0 = omega arith in
+      head-empty (drop at s) (rw (← word-head, z))
+
+  pub word-part : (w .start ≡ w .end → ⊥) → Part s at (w .start) (w .end)
+  word-part n =
+      let a = startOf s at in
+      ⊎-elim (λ l. rw (q, at-word s at a refl l) (part-of s at a (endOf s a) refl refl l))
+      (λ l. absurd (n (rw (q, at-end s at a refl l))))
+      (lt-or-le a (length s))
+
+  pub word-full : (w .start ≡ w .end → ⊥)
+      → cut (drop at s) ≡ take (w .end - w .start) (drop (w .start) s) ∷ cut (drop (w .end) s)
+  word-full n = word-part n .words
+
+  pub word-past : w .end ≡ pastOf s at
+  unfolding pastOf
+  word-past = rw q
+
+-- behind so many words and one more, from the first word or from the last
+pub past-first : (s : List ℕ) (at n : ℕ) → pastMany s (pastOf s at) n ≡ pastMany s at (suc n)
+unfolding pastMany
+past-first s at zero = refl
+past-first s at (suc n) = ap (pastOf s) (past-first s at n)
+
 -- the words behind the first of those from place i of the list on
-tail-drop : (ws : List (List ℕ)) (i : ℕ) → tailWords (drop i ws) ≡ drop (suc i) ws
+pub tail-drop : (ws : List (List ℕ)) (i : ℕ) → tailWords (drop i ws) ≡ drop (suc i) ws
 unfolding tailWords
 tail-drop [] zero = refl
 tail-drop [] (suc i) = refl
 tail-drop (w ∷ ws) zero = refl
 tail-drop (w ∷ ws) (suc i) = tail-drop ws i
+
+-- the words behind i of those from `at` on
+pub past-words : (s : List ℕ) (at i : ℕ) → cut (drop (pastMany s at i) s) ≡ drop i (cut (drop at s))
+unfolding pastMany pastOf
+past-words s at zero = refl
+past-words s at (suc i) = word-tail s (pastMany s at i) refl ∙ ap tailWords (past-words s at i) ∙ tail-drop (cut (drop at s)) i
 
 -- a turn of `nth_word`, which has passed i words
 pub nth-more : (ws : List (List ℕ)) (i : ℕ) (vs us : List (List ℕ)) → us ≡ tailWords vs → vs ≡ drop i ws → us ≡ drop (i + 1) ws

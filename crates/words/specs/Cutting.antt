@@ -8,7 +8,8 @@ use lib.ListN.{length, drop}
 use Rattle.laws.specs.Text.{space}
 use Rattle.laws.specs.Lists.{span}
 use Rattle.words.specs.declared.Next.{Next}
-use Rattle.words.specs.declared.Next.the-variants.{Word, End}
+use Rattle.words.specs.declared.Next.the-variants as Next
+use Rattle.words.specs.declared.Word.{Word}
 
 unfoldable pub isSpace : ℕ → Bool
 isSpace c = eqb c space
@@ -50,17 +51,18 @@ endOf s a = a + span noSpace (drop a s)
 
 -- the first word from `at` on
 unfoldable pub nextOf : List ℕ → ℕ → Next
-nextOf s at = cond (ltb (startOf s at) (length s)) (Word (startOf s at) (endOf s (startOf s at))) End
+nextOf s at = cond (ltb (startOf s at) (length s)) (Next.Word (startOf s at) (endOf s (startOf s at))) Next.End
 
--- behind the first word from `at` on, or `at` itself
-abbrev behind : ℕ → Next → ℕ
-behind at End = at
-behind at (Word a e) = e
+-- where the first word from `at` on stands, or the end of the text where there is none
+unfoldable pub wordAt : List ℕ → ℕ → Word
+wordAt s at = cond (ltb (startOf s at) (length s)) (record { start = startOf s at; end = endOf s (startOf s at) })
+    (record { start = length s; end = length s })
 
+-- behind the first word from `at` on, or the end of the text
 unfoldable pub pastOf : List ℕ → ℕ → ℕ
-pastOf s at = behind at (nextOf s at)
+pastOf s at = wordAt s at .end
 
--- behind so many words from the front
-unfoldable pub pastMany : List ℕ → ℕ → ℕ
-pastMany s zero = 0
-pastMany s (suc n) = pastOf s (pastMany s n)
+-- behind so many words from `at` on
+unfoldable pub pastMany : List ℕ → ℕ → ℕ → ℕ
+pastMany s at zero = at
+pastMany s at (suc n) = pastOf s (pastMany s at n)

@@ -3,8 +3,14 @@
 ghost use mathlib.Core.Path.{_≡_};
 ghost use lib.ListN.{drop};
 ghost use Rattle.laws.specs.Text.{same};
-ghost use Rattle.words.specs.Cutting.{startOf, endOf, nextOf, cut, headWord, tailWords, pastOf, pastMany};
+ghost use Rattle.words.specs.Cutting.{startOf, endOf, nextOf, wordAt, cut, headWord, tailWords, pastOf};
 ghost use Rattle.words.specs.Find.{index};
+
+// Where a word stands: from start to before end. Where there is none, both are the end of the text.
+pub struct Word {
+    pub start: usize,
+    pub end: usize,
+}
 
 pub enum Next {
     Word { start: usize, end: usize },
@@ -12,7 +18,7 @@ pub enum Next {
 }
 
 // The first place from at on that has no space.
-fn skip_spaces(s: &[u8], at: usize) -> usize
+pub fn start_of(s: &[u8], at: usize) -> usize
     ensures { λ r. ⌜ r ≡ startOf (now (s .entry)) at ⌝ }
 {
     let mut i = at;
@@ -40,36 +46,48 @@ fn word_end(s: &[u8], at: usize) -> usize
 }
 
 // The first word from at on.
+pub fn word_at(s: &[u8], at: usize) -> Word
+    ensures { λ r. ⌜ r ≡ wordAt (now (s .entry)) at ⌝ }
+{
+    let start = start_of(s, at);
+    if s.len() <= start {
+        return Word {
+            start: s.len(),
+            end: s.len(),
+        };
+    }
+    let end = word_end(s, start);
+    Word { start, end }
+}
+
+// The first word from at on.
 pub fn next_word(s: &[u8], at: usize) -> Next
     ensures { λ r. ⌜ r ≡ nextOf (now (s .entry)) at ⌝ }
 {
-    let start = skip_spaces(s, at);
+    let start = start_of(s, at);
     if s.len() <= start {
         return Next::End;
     }
-    let end = word_end(s, start);
-    Next::Word { start, end }
+    Next::Word {
+        start,
+        end: word_end(s, start),
+    }
 }
 
 // The first word from at on, or nothing where there is none.
 pub fn first_word(s: &[u8], at: usize) -> &[u8]
     ensures { λ r. ⌜ now r ≡ headWord (cut (drop at (now (s .entry)))) ⌝ }
 {
-    match next_word(s, at) {
-        Next::End => &s[..0],
-        Next::Word { start, end } => &s[start..end],
-    }
+    let Word { start, end } = word_at(s, at);
+    &s[start..end]
 }
 
-// The place behind the first word from at on: the words from there on are the others.
+// The place behind the first word from at on, or the end of the text: the words from there on are the others.
 pub fn past_word(s: &[u8], at: usize) -> usize
     ensures place { λ r. ⌜ r ≡ pastOf (now (s .entry)) at ⌝ }
     ensures others { λ r. ⌜ cut (drop r (now (s .entry))) ≡ tailWords (cut (drop at (now (s .entry)))) ⌝ }
 {
-    match next_word(s, at) {
-        Next::End => at,
-        Next::Word { start: _, end } => end,
-    }
+    word_at(s, at).end
 }
 
 // Do a and b hold the same bytes?
@@ -96,39 +114,29 @@ pub fn find_word(w: &[u8], names: &[u8]) -> usize
     let mut k: usize = 0;
     let mut at: usize = 0;
     while at < names.len() {
-        match next_word(names, at) {
-            Next::End => {
-                return k;
-            }
-            Next::Word { start, end } => {
-                if same_bytes(w, &names[start..end]) {
-                    return k;
-                }
-                at = end;
-                k += 1;
-            }
+        let Word { start, end } = word_at(names, at);
+        if start == end {
+            return k;
         }
+        if same_bytes(w, &names[start..end]) {
+            return k;
+        }
+        at = end;
+        k += 1;
     }
     k
-}
-
-// The place behind so many words from the front: the words from there on are the others.
-pub fn past_words(s: &[u8], many: usize) -> usize
-    ensures place { λ r. ⌜ r ≡ pastMany (now (s .entry)) many ⌝ }
-    ensures others { λ r. ⌜ cut (drop r (now (s .entry))) ≡ drop many (cut (now (s .entry))) ⌝ }
-{
-    let mut at: usize = 0;
-    let mut passed: usize = 0;
-    while passed < many {
-        at = past_word(s, at);
-        passed += 1;
-    }
-    at
 }
 
 // The word of s at a place from 0, or nothing where there are not so many.
 pub fn nth_word(s: &[u8], k: usize) -> &[u8]
     ensures { λ r. ⌜ now r ≡ headWord (drop k (cut (now (s .entry)))) ⌝ }
 {
-    first_word(s, past_words(s, k))
+    let mut place: usize = 0;
+    let mut passed: usize = 0;
+    while passed < k {
+        place = word_at(s, place).end;
+        passed += 1;
+    }
+    let Word { start, end } = word_at(s, place);
+    &s[start..end]
 }

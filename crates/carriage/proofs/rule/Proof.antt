@@ -1,4 +1,4 @@
--- `carriage::rule` meets its contract: silence with 4 or 5, or what the words come to.
+-- Silence, or what the words come to.
 -- Assumes nothing.
 use borrow.Author.Needs.{needs}
 use Rattle.carriage.proofs.rule.Statement.{statement}

@@ -7,10 +7,10 @@ use Rattle.words.proofs.next_word.Statement.{statement}
 use Rattle.words.proofs.next_word.Tie as tie
 
 returns : tie.Need-returns
-returns c = sym (next-end _ _ _ (c .before .skip-spaces .ensures) (c .if1 .taken))
+returns c = sym (next-end _ _ _ (c .before .start-of .ensures) (c .if1 .taken))
 
 returns-2 : tie.Need-returns-2
-returns-2 c = rw (c .word-end .ensures) (sym (next-word _ _ _ (c .before .before .skip-spaces .ensures) (c .before .if1 .left)))
+returns-2 c = rw (c .word-end .ensures) (sym (next-word _ _ _ (c .before .before .start-of .ensures) (c .before .if1 .left)))
 
 pub next-word-spec : {M : Type 1} → statement M
 next-word-spec = tie.close

@@ -2,58 +2,80 @@
 -- Assumes nothing.
 use mathlib.Core.Path.{sym, _∙_}
 use Rattle.laws.specs.Text.{text}
+use Rattle.words.proofs.Cut.{word-whole, word-within}
 use Rattle.phrase.proofs.Steps.{store-one, store-more, store-current, store-at}
 use borrow.Author.Needs.{needs}
 use Rattle.phrase.proofs.toolwords.read_storepos.Statement.{statement}
 use Rattle.phrase.proofs.toolwords.read_storepos.Tie as tie
 
+sub-read-number : tie.Need-sub-read-number
+sub-read-number c = word-whole _ _ (c .word-at .ensures)
+
+part-read-number-start : tie.Need-part-read-number-start
+part-read-number-start c = word-whole _ _ (c .word-at .ensures)
+
+part-read-number-end : tie.Need-part-read-number-end
+part-read-number-end c = word-within _ _ (c .word-at .ensures)
+
 returns : tie.Need-returns
 returns c =
     let if1 = c .before in
-    let first-word2 = if1 .before in
-    let past-word = first-word2 .before in
-    let read-number = past-word .before in
-    let first-word = read-number .before in
-    store-one _ _ _ _ (first-word .first-word .ensures) (past-word .past-word .ensures .1)
-    (first-word2 .first-word2 .ensures) (if1 .if1 .taken) (read-number .read-number .ensures) (c .made .ensures)
+    let second = if1 .before in
+    let n = second .before in
+    let first = n .before .before in
+    store-one _ (first .before .before .args .at) (first .word-at .ensures) (second .word-at2 .ensures) (n .read-number .ensures)
+    (if1 .if1 .taken) (c .made .ensures)
 
 returns-2 : tie.Need-returns-2
 returns-2 c =
-    let first-word3 = c .before in
-    let past-word2 = first-word3 .before in
-    let v = past-word2 .before in
-    store-more _ _ _ _ (v .before .before .before .before .first-word .ensures) (v .before .before .past-word .ensures .1)
-    (v .before .first-word2 .ensures) (v .if1 .left)
-    _ _ (past-word2 .past-word2 .ensures .1) (first-word3 .first-word3 .ensures) (c .if2 .taken)
+    let third = c .before in
+    let if1 = third .before in
+    let second = if1 .before in
+    let n = second .before in
+    let first = n .before .before in
+    store-more _ (first .before .before .args .at) (first .word-at .ensures) (second .word-at2 .ensures) (n .read-number .ensures)
+    (if1 .if1 .left) (third .start-of .ensures) (c .if2 .taken)
+
+sub-v : tie.Need-sub-v
+sub-v c = word-whole _ _ (c .before .before .before .word-at2 .ensures)
+
+part-v-start : tie.Need-part-v-start
+part-v-start c = word-whole _ _ (c .before .before .before .word-at2 .ensures)
+
+part-v-end : tie.Need-part-v-end
+part-v-end c = word-within _ _ (c .before .before .before .word-at2 .ensures)
 
 returns-3 : tie.Need-returns-3
 unfolding text
 returns-3 c =
     let if3 = c .before in
     let same-bytes = if3 .before in
-    let u = same-bytes .before .before in
-    let v = u .before .before .before in
-    store-current _ _ _ _ (v .before .before .before .before .first-word .ensures) (v .before .before .past-word .ensures .1)
-    (v .before .first-word2 .ensures) (v .if1 .left)
-    _ _ (u .before .before .past-word2 .ensures .1) (u .before .first-word3 .ensures) (u .if2 .left)
-    (v .before .before .before .read-number .ensures) (sym (same-bytes .same-bytes .ensures) ∙ if3 .if3 .taken) (c .made2 .ensures)
+    let if2 = same-bytes .before .before .before in
+    let if1 = if2 .before .before in
+    let second = if1 .before in
+    let n = second .before in
+    let first = n .before .before in
+    store-current _ (first .before .before .args .at) (first .word-at .ensures) (second .word-at2 .ensures) (n .read-number .ensures)
+    (if1 .if1 .left) (if2 .before .start-of .ensures) (if2 .if2 .left)
+    (sym (same-bytes .same-bytes .ensures) ∙ if3 .if3 .taken) (c .made2 .ensures)
 
 returns-4 : tie.Need-returns-4
 unfolding text
 returns-4 c =
     let if3 = c .before in
     let same-bytes = if3 .before in
-    let u = same-bytes .before .before in
-    let v = u .before .before .before in
+    let if2 = same-bytes .before .before .before in
+    let if1 = if2 .before .before in
+    let second = if1 .before in
+    let n = second .before in
+    let first = n .before .before in
     c .store-at .ensures
-    ∙ store-at _ _ _ _ (v .before .before .before .before .first-word .ensures) (v .before .before .past-word .ensures .1)
-    (v .before .first-word2 .ensures) (v .if1 .left)
-    _ _ (u .before .before .past-word2 .ensures .1) (u .before .first-word3 .ensures) (u .if2 .left)
-    (v .before .before .before .read-number .ensures) (sym (same-bytes .same-bytes .ensures) ∙ if3 .if3 .left)
+    ∙ store-at _ (first .before .before .args .at) (first .word-at .ensures) (second .word-at2 .ensures) (n .read-number .ensures)
+    (if1 .if1 .left) (if2 .before .start-of .ensures) (if2 .if2 .left) (sym (same-bytes .same-bytes .ensures) ∙ if3 .if3 .left)
 
 pub read-storepos-spec : {M : Type 1} → statement M
 read-storepos-spec =
     tie.close
-    (tie.spec (λ c κs. search needs) (λ c κs. search needs) (λ c κs. search needs) (λ c κs. search needs) (λ c κs. search needs) returns
-    (λ c κs. search needs) (λ c κs. search needs) returns-2 (λ c. search needs) (λ c κs. search needs) (λ c κs. search needs) returns-3
-    (λ c κs. search needs) returns-4)
+    (tie.spec (λ c κs. search needs) sub-read-number part-read-number-start part-read-number-end (λ c κs. search needs)
+    (λ c κs. search needs) (λ c κs. search needs) returns (λ c κs. search needs) returns-2 sub-v part-v-start part-v-end
+    (λ c. search needs) (λ c κs. search needs) (λ c κs. search needs) returns-3 (λ c κs. search needs) returns-4)

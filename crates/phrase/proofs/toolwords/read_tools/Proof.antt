@@ -1,17 +1,26 @@
 -- The word behind `tools` is looked up in its table.
 -- Assumes nothing.
-use Rattle.phrase.specs.Reading.{tools, readTools}
-use Rattle.phrase.specs.declared.WordsRead.the-variants.{Refused}
-use Rattle.phrase.proofs.Steps.{looked-up}
+use Rattle.words.proofs.Cut.{word-whole, word-within}
+use Rattle.phrase.proofs.Steps.{tools-word}
 use borrow.Author.Needs.{needs}
 use Rattle.phrase.proofs.toolwords.read_tools.Statement.{statement}
 use Rattle.phrase.proofs.toolwords.read_tools.Tie as tie
 
+sub-tool-of : tie.Need-sub-tool-of
+sub-tool-of c = word-whole _ _ (c .word-at .ensures)
+
+part-tool-of-start : tie.Need-part-tool-of-start
+part-tool-of-start c = word-whole _ _ (c .word-at .ensures)
+
+part-tool-of-end : tie.Need-part-tool-of-end
+part-tool-of-end c = word-within _ _ (c .word-at .ensures)
+
 returns : tie.Need-returns
-unfolding readTools
 returns c =
-    looked-up tools (Refused 10) _ _ _ (c .before .before .first-word .ensures) (c .before .past-word .ensures .1) (c .tool-of .ensures)
+    let word-at = c .before .before in
+    tools-word _ (word-at .before .before .args .at) (word-at .word-at .ensures) (c .tool-of .ensures)
 
 pub read-tools-spec : {M : Type 1} → statement M
-read-tools-spec = tie.close
-    (tie.spec (λ c κs. search needs) (λ c κs. search needs) (λ c κs. search needs) returns)
+read-tools-spec =
+    tie.close
+    (tie.spec (λ c κs. search needs) sub-tool-of part-tool-of-start part-tool-of-end (λ c κs. search needs) returns)
