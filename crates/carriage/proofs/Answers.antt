@@ -39,7 +39,8 @@ use Rattle.carriage.proofs.Rulings.{Comes, comes}
 use Rattle.carriage.proofs.Fits.{data-fits}
 
 -- the bytes s are looked at by a command that carries words alone
-carried-same : (d : Device) (k : ℕ) (s : List ℕ) (c : Command) → textOf d k (cut s) (formOf c) (demands c .reply) ≡ dataOf d k (carriedBy c s) c
+carried-same : (d : Device) (k : ℕ) (s : List ℕ) (c : Command)
+    → textOf d k (cut s) (formOf c) (demands c .reply) ≡ dataOf d k (carriedBy c s) c
 unfolding dataOf
 carried-same d k s c = go (demands c .reply)
   where

@@ -1,53 +1,82 @@
--- The cases of document 01 that are marked P, as one table under one statement: the line, the number and the whole reply.
--- Over the very definitions that the promise of `step` cites, closed by computation.
+-- The cases of document 01 that are marked P, and some beside them, as one table under one statement: what came before, the line, the
+-- number and the whole reply. Over the very definitions that the promises of `step` and `report` cite, closed by computation.
 use mathlib.Core.Path.{_≡_, refl}
-use mathlib.Core.Bool.{Bool, true, false, cond}
-use mathlib.Core.List.{List, [], _∷_, map}
+use mathlib.Core.List.{List, [], _∷_, _++_, map}
 use Prim.Native.Nat.{ℕ}
 use Prim.Native.String.{String}
 use lib.IntN.{pos}
 use lib.ListN.{take, replicate}
 use Rattle.laws.specs.Text.{text}
+use Rattle.laws.specs.Refusals.{ACCEPTED, NOTLINE, BADSUM, BADADDRESS, NOTMINE, BADCOMMAND, BADDATA, BADAXIS, DEVICEONLY, NOACCESS, STATUSBUSY}
 use Rattle.units.specs.Units.{number}
+use Rattle.axis.specs.RaisedWarnings.{raise, raised}
+use Rattle.axis.specs.Reports.{reportOf}
 use Rattle.device.specs.declared.Device.{Device}
-use Rattle.device.specs.Record.{withAxes, fresh}
-use Rattle.axis.specs.declared.Axis.{Axis}
+use Rattle.device.specs.Record.{fresh}
+use Rattle.rules.specs.Reports.{isAxis, badReport, reportRefusal}
+use Rattle.rules.specs.Reports as Device
 use Rattle.carriage.specs.Step.{step}
+use Rattle.carriage.specs.Report.{report}
 use Rattle.carriage.specs.Open.{answering}
+use Rattle.carriage.proofs.GoodForEver.{Event, line, motor, reached}
 
--- "fresh, address 1, two axes"; "Homed" is both axes homed at 0
+-- "fresh, address 1, two axes"
 unfoldable pub freshDevice : Device
 freshDevice = fresh (number (pos 1)) 2 (number (pos 100))
 
-unfoldable pub homed : Axis → Axis
-homed a = record { settings = a .settings; motion = a .motion; reference = true; warnings = a .warnings; stored = a .stored }
+-- what came before: a line; a motor report of an axis, its kind and its last number
+abbrev sent : String → Event
+sent l = line (text l) (replicate 96 0)
 
-unfoldable pub homedDevice : Device
-homedDevice = withAxes (map homed (freshDevice .axes)) freshDevice
+abbrev told : ℕ → ℕ → ℕ → Event
+told axis kind last = motor (number (pos axis)) (number (pos kind)) (number (pos last))
+
+-- "Homed": both axes have reached home, at 0; and then axis 2 has gone to 10000
+abbrev homed : List Event
+homed = sent "/home\n" ∷ told 1 3 0 ∷ told 2 3 0 ∷ []
+
+abbrev gone : List Event
+gone = homed ++ sent "/1 2 move abs 10000\n" ∷ told 2 2 10000 ∷ []
 
 pub record Case : Type 0 where
-  pub home : Bool
+  pub before : List Event
   pub line : String
   pub number : ℕ
   pub reply : String
 
-abbrev case : Bool → String → ℕ → String → Case
-case h l n r = record { home = h; line = l; number = n; reply = r }
+abbrev case : List Event → String → ℕ → String → Case
+case b l n r = record { before = b; line = l; number = n; reply = r }
 
 unfoldable pub cases : List Case
 cases =
-    case false "/\n" 0 "@01 0 OK IDLE WR 0\r\n"
-    ∷ case false "/01 tools echo:8F\n" 0 "@01 0 OK IDLE WR 0\r\n"
-    ∷ case false "/01 tools echo:8E\n" 3 ""
-    ∷ case false "/0x63 home\n" 5 ""
-    ∷ case false "/0x64 home\n" 4 ""
-    ∷ case false "/-1\n" 4 ""
-    ∷ case false "/1 7 home\n" 12 "@01 0 RJ IDLE WR BADAXIS\r\n"
-    ∷ case false "/1 1 get comm.alert\n" 13 "@01 1 RJ IDLE WR DEVICEONLY\r\n"
-    ∷ case false "/set driver.dir 1\n" 14 "@01 0 RJ IDLE WR NOACCESS\r\n"
-    ∷ case false "/01 set comm.address 5\n" 0 "@05 0 OK IDLE WR 0\r\n"
-    ∷ case true "/move abs 305381\n" 0 "@01 0 OK BUSY -- 0\r\n"
-    ∷ case true "/move abs 305382\n" 11 "@01 0 RJ IDLE -- BADDATA\r\n"
+    case [] "/\n" ACCEPTED "@01 0 OK IDLE WR 0\r\n"
+    ∷ case [] "/" NOTLINE ""
+    ∷ case [] "/01 tools echo:8F\n" ACCEPTED "@01 0 OK IDLE WR 0\r\n"
+    ∷ case [] "/01 tools echo:8E\n" BADSUM ""
+    ∷ case [] "/0x63 home\n" NOTMINE ""
+    ∷ case [] "/0x64 home\n" BADADDRESS ""
+    ∷ case [] "/-1\n" BADADDRESS ""
+    ∷ case [] "/1 7 home\n" BADAXIS "@01 0 RJ IDLE WR BADAXIS\r\n"
+    ∷ case [] "/1 1 get comm.alert\n" DEVICEONLY "@01 1 RJ IDLE WR DEVICEONLY\r\n"
+    ∷ case [] "/set driver.dir 1\n" NOACCESS "@01 0 RJ IDLE WR NOACCESS\r\n"
+    ∷ case [] "/01 set comm.address 5\n" ACCEPTED "@05 0 OK IDLE WR 0\r\n"
+    ∷ case homed "/move abs 305381\n" ACCEPTED "@01 0 OK BUSY -- 0\r\n"
+    ∷ case homed "/move abs 305382\n" BADDATA "@01 0 RJ IDLE -- BADDATA\r\n"
+    -- beside those of document 01: an axis that is not 0, data that are not 0, values of both axes
+    ∷ case [] "/1 2 home\n" ACCEPTED "@01 2 OK BUSY WR 0\r\n"
+    ∷ case [] "/1 2 get limit.max\n" ACCEPTED "@01 2 OK IDLE WR 305381\r\n"
+    ∷ case [] "/1 get maxspeed\n" ACCEPTED "@01 0 OK IDLE WR 153600 153600\r\n"
+    ∷ case [] "/tools echo a  b\n" ACCEPTED "@01 0 OK IDLE WR a b\r\n"
+    ∷ case [] "/set comm.checksum 1\n" ACCEPTED "@01 0 OK IDLE WR 0:3E\r\n"
+    ∷ case [] "/1 2 moves\n" BADCOMMAND "@01 2 RJ IDLE WR BADCOMMAND\r\n"
+    ∷ case homed "/1 2 move abs 305382\n" BADDATA "@01 2 RJ IDLE -- BADDATA\r\n"
+    ∷ case gone "/get pos\n" ACCEPTED "@01 0 OK IDLE -- 0 10000\r\n"
+    ∷ case gone "/1 2 get pos\n" ACCEPTED "@01 2 OK IDLE -- 10000\r\n"
+    ∷ case (gone ++ sent "/1 1 home\n" ∷ []) "/1 2\n" ACCEPTED "@01 2 OK IDLE -- 0\r\n"
+    ∷ case (gone ++ sent "/1 1 home\n" ∷ []) "/1\n" ACCEPTED "@01 0 OK BUSY -- 0\r\n"
+    ∷ case (gone ++ sent "/1 1 home\n" ∷ []) "/1 1 set pos 5\n" STATUSBUSY "@01 1 RJ BUSY -- STATUSBUSY\r\n"
+    ∷ case (told 2 4 3 ∷ []) "/1 1 warnings\n" ACCEPTED "@01 1 OK IDLE WR 01 WR\r\n"
+    ∷ case (told 2 4 3 ∷ []) "/warnings\n" ACCEPTED "@01 0 OK IDLE FS 02 FS WR\r\n"
     ∷ []
 
 -- the number, and the bytes of the reply
@@ -57,12 +86,12 @@ pub record Said : Type 0 where
 
 unfoldable pub said : Case → Said
 said c =
-    let s = step (cond (c .home) homedDevice freshDevice) (text (c .line)) (replicate 96 0) in
+    let s = step (reached freshDevice (c .before)) (text (c .line)) (replicate 96 0) in
     record { number = s .answer .number; bytes = take (s .answer .length) (s .buffer) }
 
 unfoldable pub wanted : Case → Said
 wanted c = record { number = c .number; bytes = text (c .reply) }
 
 pub all-cases : map said cases ≡ map wanted cases
-unfolding answering freshDevice homed homedDevice cases said wanted
+unfolding answering freshDevice reached report Device.report reportRefusal badReport isAxis reportOf raise raised cases said wanted
 all-cases = refl

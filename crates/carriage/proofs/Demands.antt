@@ -4,6 +4,7 @@ use mathlib.Core.Path.{_≡_, refl, sym, ap, _∙_}
 use mathlib.Core.Bool.{Bool, true, false, cond, not}
 use mathlib.Core.List.{List, [], _∷_, _++_}
 use Prim.Native.Nat.{ℕ}
+use native.Mathlib.Omega.{arith}
 use lib.Dec.{eqb, ltb}
 use lib.ListN.{length, take, drop}
 use lib.Seq.{take-at}
@@ -13,11 +14,14 @@ use Rattle.laws.proofs.Answers.{one-answer}
 use Rattle.laws.proofs.Bools.{not-false}
 use Rattle.laws.proofs.Refusals.{unmet, below}
 use Rattle.command.specs.declared.Command.{Command}
+use Rattle.phrase.specs.declared.WordsRead.{WordsRead}
 use Rattle.phrase.specs.declared.WordsRead.the-variants as Words
+use Rattle.phrase.proofs.WordsNumbered.{Misspelt, bad-command, bad-data}
 use Rattle.line.specs.declared.LineRead.{LineRead}
 use Rattle.line.specs.declared.LineRead.the-variants.{Silent, Addressed}
-use Rattle.line.specs.Reading.{readLine}
+use Rattle.line.specs.Reading.{readLine, carriedBy}
 use Rattle.line.proofs.Carried.{Carried, carried-of}
+use Rattle.line.proofs.EveryLine.{Reads, unframed, misaddressed, misspelt, too-long, not-line, bad-sum, every-line}
 use Rattle.device.specs.declared.Device.{Device}
 use Rattle.device.specs.Good.{good}
 use Rattle.rules.specs.Refusals.{refusal}
@@ -29,15 +33,11 @@ use Rattle.view.specs.Data.{dataOf}
 use Rattle.carriage.specs.declared.Answer.{Answer}
 use Rattle.carriage.specs.Step.{Stepped, Gives, silent, written, replyOf, rejected, accepted, obeyed, unread, notMine, answered, silence, respond, step}
 
--- "1 to 5, 20, 21 are silent: length 0, nothing written": and the record stays
+-- "length 0, nothing written": and the record stays
 pub record Unchanged (d : Device) (b : List ℕ) (s : Stepped) : Type 0 where
   pub next : s .answer .next ≡ d
   pub length : s .answer .length ≡ 0
   pub buffer : s .buffer ≡ b
-
-pub silence-changes-nothing : (d : Device) (l b : List ℕ) → (silence d (readLine l) b ≡ 0 → ⊥) → Unchanged d b (step d l b)
-unfolding step respond silent
-silence-changes-nothing d l b h = rw (ne-eqb (silence d (readLine l) b) 0 h) (record { next = refl; length = refl; buffer = refl })
 
 -- the rows of the table of silences: none of them applies where there is no silence
 module _ (d : Device) (r : LineRead) (b : List ℕ) (e : silence d r b ≡ 0) where
@@ -59,55 +59,63 @@ module _ (d : Device) (r : LineRead) (b : List ℕ) (e : silence d r b ≡ 0) wh
       go n true q h = eqb-true n 0 q
       go n false q h = h
 
+some-number : {l : List ℕ} {n : ℕ} → Reads l (Silent n) → n ≡ 0 → ⊥
+some-number (unframed too-long x) e = omega arith
+some-number (unframed not-line x) e = omega arith
+some-number (unframed bad-sum x) e = omega arith
+some-number (misaddressed c h) e = omega arith
+
+misspelt-some : {m : ℕ} → Misspelt m → eqb m 0 ≡ false
+misspelt-some bad-command = refl
+misspelt-some bad-data = refl
+
 -- what holds of every number that the reader rejects a line's words with
 abbrev pub Rejects : (ℕ → Type 0) → LineRead → Type 0
 Rejects Q (Silent n) = Unit
 Rejects Q (Addressed n k end (Words.Command c from)) = Unit
 Rejects Q (Addressed n k end (Words.Refused m)) = Q m
 
--- what holds of the silence, of an answer that rejects and of one that accepts, holds of every answer; Q is what is known of the
--- numbers that the reader and the device reject with
-module _ (P : Stepped → Type 0) (Q : ℕ → Type 0) (d : Device) (l b : List ℕ)
-    (quiet : P (silent (silence d (readLine l) b) d b))
-    (refused : (n k : ℕ) → Q n → good d ≡ true → P (rejected n d k b))
-    (done : (k : ℕ) (c : Command) (es : List (List ℕ)) → good d ≡ true → refusal d k c ≡ 0 → Carried l c es → P (accepted d k es c b))
-    (device : (k : ℕ) (c : Command) → (refusal d k c ≡ 0 → ⊥) → Q (refusal d k c)) where
-  obeys : (k : ℕ) (c : Command) (es : List (List ℕ)) → good d ≡ true → Carried l c es → P (obeyed d k es c b)
+-- what holds of the silence, of words that are misspelt, of a command that is refused and of one that is accepted, holds of every
+-- answer: with what was read of the line
+module _ (P : Stepped → Type 0) (d : Device) (l b : List ℕ)
+    (quiet : (silence d (readLine l) b ≡ 0 → ⊥) → P (silent (silence d (readLine l) b) d b))
+    (wrong : (a k end m : ℕ) → readLine l ≡ Addressed a k end (Words.Refused m) → Misspelt m → good d ≡ true → P (rejected m d k b))
+    (refused : (a k end from : ℕ) (c : Command) → readLine l ≡ Addressed a k end (Words.Command c from) → good d ≡ true
+    → (refusal d k c ≡ 0 → ⊥) → P (rejected (refusal d k c) d k b))
+    (done : (a k end from : ℕ) (c : Command) → readLine l ≡ Addressed a k end (Words.Command c from) → good d ≡ true
+    → refusal d k c ≡ 0 → P (accepted d k (carriedBy c (drop from (take end l))) c b)) where
+  obeys : (a k end from : ℕ) (c : Command) → readLine l ≡ Addressed a k end (Words.Command c from) → good d ≡ true
+      → P (obeyed d k (carriedBy c (drop from (take end l))) c b)
   unfolding obeyed
-  obeys k c es g h = go (eqb (refusal d k c) 0) refl
+  obeys a k end from c is g = go (eqb (refusal d k c) 0) refl
     where
-      go : (t : Bool) → eqb (refusal d k c) 0 ≡ t → P (cond t (accepted d k es c b) (rejected (refusal d k c) d k b))
-      go true e = done k c es g (eqb-true (refusal d k c) 0 e) h
-      go false e = refused (refusal d k c) k (device k c (eqb-false (refusal d k c) 0 e)) g
+      go : (t : Bool) → eqb (refusal d k c) 0 ≡ t
+          → P (cond t (accepted d k (carriedBy c (drop from (take end l))) c b) (rejected (refusal d k c) d k b))
+      go true e = done a k end from c is g (eqb-true (refusal d k c) 0 e)
+      go false e = refused a k end from c is g (eqb-false (refusal d k c) 0 e)
 
-  answers : (r : LineRead) → readLine l ≡ r → Rejects Q r → good d ≡ true → P (silent (unread r) d b) → P (answered d l r b)
-  answers (Silent n) is h g q = q
-  answers (Addressed n k end (Words.Refused m)) is h g q = refused m k h g
-  answers (Addressed n k end (Words.Command c from)) is h g q = obeys k c _ g (carried-of l n k end from c is)
+  answers : (r : LineRead) → readLine l ≡ r → Reads l r → silence d r b ≡ 0 → P (answered d l r b)
+  answers (Silent n) is h z = absurd (some-number h (read-number d (Silent n) b z))
+  answers (Addressed a k end (Words.Refused m)) is (misspelt c u v w) z = wrong a k end m is w (read-good d _ b z)
+  answers (Addressed a k end (Words.Command c from)) is h z = obeys a k end from c is (read-good d _ b z)
 
-  pub each-answer : Rejects Q (readLine l) → P (step d l b)
+  pub each-answer : P (step d l b)
   unfolding step respond
-  each-answer h = go (eqb (silence d (readLine l) b) 0) refl
+  each-answer = go (eqb (silence d (readLine l) b) 0) refl
     where
       go : (t : Bool) → eqb (silence d (readLine l) b) 0 ≡ t
           → P (cond t (answered d l (readLine l) b) (silent (silence d (readLine l) b) d b))
-      go true e =
-          let z = eqb-true (silence d (readLine l) b) 0 e in
-          answers (readLine l) refl h (read-good d (readLine l) b z) (rw (read-number d (readLine l) b z, ← z) quiet)
-      go false e = quiet
+      go true e = answers (readLine l) refl (every-line l) (eqb-true (silence d (readLine l) b) 0 e)
+      go false e = quiet (eqb-false (silence d (readLine l) b) 0 e)
 
--- the same, whatever the numbers are
-any-number : (r : LineRead) → Rejects (λ n. Unit) r
-any-number (Silent n) = tt
-any-number (Addressed n k end (Words.Command c from)) = tt
-any-number (Addressed n k end (Words.Refused m)) = tt
-
+-- the same, where the number of a refusal is of no account
 pub every-answer : (P : Stepped → Type 0) (d : Device) (l b : List ℕ) → P (silent (silence d (readLine l) b) d b)
     → ((n k : ℕ) → good d ≡ true → P (rejected n d k b))
     → ((k : ℕ) (c : Command) (es : List (List ℕ)) → good d ≡ true → refusal d k c ≡ 0 → Carried l c es → P (accepted d k es c b))
     → P (step d l b)
-every-answer P d l b quiet refused done = each-answer P (λ n. Unit) d l b quiet (λ n k u g. refused n k g) done (λ k c h. tt)
-    (any-number (readLine l))
+every-answer P d l b quiet refused done =
+    each-answer P d l b (λ h. quiet) (λ a k end m is w g. refused m k g) (λ a k end from c is g h. refused (refusal d k c) k g)
+    (λ a k end from c is g e. done k c _ g e (carried-of l a k end from c is))
 
 -- A refusal, silent or replied, leaves the record as it was.
 pub refusal-keeps-the-record : (d : Device) (l b : List ℕ) → (step d l b .answer .number ≡ 0 → ⊥) → step d l b .answer .next ≡ d
@@ -136,24 +144,36 @@ keeps-behind d l b =
     (λ n k g. record { text = replyOf d k false (refusalName n); long = refl; left = refl })
     (λ k c es g e w. record { text = replyOf (next d k c) k true (dataOf d k es c); long = refl; left = refl })
 
--- "A reply describes the record after the command": what stands in the buffer is a reply of the next record, so that its address,
--- its status, its highest warning and whether it has a sum are the next record's.
-pub record Describes (s : Stepped) : Type 0 where
-  pub axis : ℕ
-  pub ok : Bool
-  pub words : List ℕ
-  pub reply : take (s .answer .length) (s .buffer) ≡ replyOf (s .answer .next) axis ok words
+-- ---- the reply
 
-pub reply-describes-next : (d : Device) (l b : List ℕ) → (step d l b .answer .length ≡ 0 → ⊥) → Describes (step d l b)
+-- the data of a reply beside the number n, to words that were read for the axis k: the refusal's name; or, of a command that is
+-- accepted, its data, with the words that it carries
+abbrev pub dataFor : Device → List ℕ → ℕ → ℕ → WordsRead → ℕ → List ℕ
+dataFor d l k end (Words.Refused m) n = refusalName n
+dataFor d l k end (Words.Command c from) n = cond (eqb n 0) (dataOf d k (carriedBy c (drop from (take end l))) c) (refusalName n)
+
+-- what an answer s leaves in the buffer, and the reply of its next record to what was read: for the axis that was sent, OK exactly
+-- where its number is 0
+abbrev pub replyIn : Stepped → List ℕ
+replyIn s = take (s .answer .length) (s .buffer)
+
+abbrev pub replyTo : Device → List ℕ → LineRead → Stepped → List ℕ
+replyTo d l (Silent n) s = []
+replyTo d l (Addressed a k end w) s = replyOf (s .answer .next) k (eqb (s .answer .number) 0) (dataFor d l k end w (s .answer .number))
+
+-- "A reply describes the record after the command": whatever is read of the line, nothing else stands in the buffer.
+pub reply-describes-next : (d : Device) (l b : List ℕ) → (step d l b .answer .length ≡ 0 → ⊥)
+    → replyIn (step d l b) ≡ replyTo d l (readLine l) (step d l b)
 unfolding silent rejected accepted written
 reply-describes-next d l b =
-    every-answer (λ s. (s .answer .length ≡ 0 → ⊥) → Describes s) d l b (λ h. absurd (h refl))
-    (λ n k g h. let t : List ℕ = replyOf d k false (refusalName n) in
-    record { axis = k; ok = false; words = refusalName n; reply = take-at t (drop (length t) b) (length t) refl })
-    (λ k c es g e w h.
-    let shows : List ℕ = dataOf d k es c in
-    let t : List ℕ = replyOf (next d k c) k true shows in
-    record { axis = k; ok = true; words = shows; reply = take-at t (drop (length t) b) (length t) refl })
+    each-answer (λ s. (s .answer .length ≡ 0 → ⊥) → replyIn s ≡ replyTo d l (readLine l) s) d l b (λ n h. absurd (h refl))
+    (λ a k end m is w g h. rw is (rw (misspelt-some w) (front (replyOf d k false (refusalName m)))))
+    (λ a k end from c is g r h. rw (is, ne-eqb (refusal d k c) 0 r) (front (replyOf d k false (refusalName (refusal d k c)))))
+    (λ a k end from c is g e h.
+    rw is (front (replyOf (next d k c) k true (dataOf d k (carriedBy c (drop from (take end l))) c))))
+  where
+    front : (t : List ℕ) → take (length t) (t ++ drop (length t) b) ≡ t
+    front t = take-at t (drop (length t) b) (length t) refl
 
 -- The promise of a step leaves no choice: two results and buffers that meet it are the same.
 pub gives-one : {s : Stepped} {r q : Answer} {b c : List ℕ} → Gives s r b → Gives s q c → (r ≡ q) × (b ≡ c)

@@ -5,5 +5,12 @@ pub mod Heard
 pub mod Rulings
 pub mod Answers
 pub mod Demands
+pub mod GoodForEver
+pub mod SilentNumbers
 pub mod Room
+pub mod SpelledIsObeyed
+pub mod UnspelledIsRefused
+pub mod OutsideNeverMoves
+pub mod MoveGoesWhereAsked
+pub mod BeyondCount
 pub mod Cases

@@ -1,11 +1,10 @@
 -- No reply exceeds 96 bytes, whatever the record, the line and the buffer: nothing of a reply is ever cut. And a silence has a number
 -- of two digits at most. Assumes nothing.
-use mathlib.Core.Path.{_≡_, refl}
 use mathlib.Core.Bool.{Bool, true, false}
-use mathlib.Core.List.{List, []}
-use Prim.Native.Nat.{ℕ, _-_, _≤_}
+use mathlib.Core.List.{List}
+use Prim.Native.Nat.{ℕ, _≤_}
 use native.Mathlib.Omega.{arith}
-use lib.ListN.{length, take, drop, length-take}
+use lib.ListN.{length}
 use Rattle.laws.proofs.Each.{none, more}
 use Rattle.laws.proofs.Refusals.{at-most}
 use Rattle.command.specs.declared.Command.{Command}

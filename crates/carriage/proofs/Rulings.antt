@@ -1,6 +1,6 @@
 -- What a line comes to is answered as the step says; and what holds of a command that meets no refusal.
 -- Assumes nothing.
-use mathlib.Core.Path.{_≡_, refl, sym, ap, subst, _∙_}
+use mathlib.Core.Path.{_≡_, refl, sym, ap, _∙_}
 use mathlib.Core.Bool.{Bool, true, false, cond}
 use mathlib.Core.List.{List}
 use Prim.Native.Nat.{ℕ, _≤_}
@@ -97,7 +97,10 @@ module _ (d : Device) (l b : List ℕ) where
 
     read-comes : (r : LineRead) → readLine l ≡ r → Comes (rule d r)
     unfolding step
-    read-comes (Line.Silent n) q = record { answers = respond-silent d l b room g n ∙ ap (λ (r : LineRead). respond d l r b) (sym q); fair = tt }
+    read-comes (Line.Silent n) q = record {
+      answers = respond-silent d l b room g n ∙ ap (λ (r : LineRead). respond d l r b) (sym q);
+      fair = tt;
+    }
     read-comes (Line.Addressed a k end w) q = go (concerns d a) refl
       where
         go : (t : Bool) → concerns d a ≡ t → Comes (cond t (ruleWords d k end w) (Silent 5))

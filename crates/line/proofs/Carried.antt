@@ -15,14 +15,13 @@ use Rattle.words.proofs.Cut.{past-words, tail-drop}
 use Rattle.command.specs.declared.Command.{Command}
 use Rattle.command.specs.Commands.{carriesWords, echoOf}
 use Rattle.phrase.specs.Reading.{readCommand, echoPlace}
-use Rattle.phrase.specs.declared.WordsRead.{WordsRead}
 use Rattle.phrase.specs.declared.WordsRead.the-variants as Read
 use Rattle.phrase.proofs.Rows.{place-of}
 use Rattle.line.specs.declared.Frame.{Frame}
 use Rattle.line.specs.declared.Frame.the-variants as Frame
 use Rattle.line.specs.declared.LineRead.{LineRead}
 use Rattle.line.specs.declared.LineRead.the-variants.{Silent, Addressed}
-use Rattle.line.specs.Reading.{frameOf, startsNumber, axisDigit, axisOf, addressOf, readWords, readContent, framed, readLine, carriedBy}
+use Rattle.line.specs.Reading.{frameOf, startsNumber, axisDigit, axisOf, addressOf, readWords, framed, readLine, carriedBy}
 use Rattle.line.proofs.Steps.{behind-slash, take-whole}
 
 pub carried-echo : (c : Command) (p : ℕ) (s : List ℕ) (ws : List (List ℕ)) → cut (drop p s) ≡ drop 2 ws

@@ -2,7 +2,7 @@
 -- Every row, every setting, every number of 32 bits, every line to 80 bytes. Assumes nothing.
 use mathlib.Core.Path.{_≡_, refl, sym, ap, _∙_}
 use mathlib.Core.Logic.{_↔_, ⊎-elim}
-use mathlib.Core.Bool.{Bool, true, false, cond}
+use mathlib.Core.Bool.{Bool, true, false}
 use mathlib.Core.List.{List, [], _∷_}
 use mathlib.Core.Option.{none, some}
 use Prim.Native.Nat.{ℕ, suc, _<_}
@@ -24,7 +24,7 @@ use Rattle.words.proofs.Table.{by-entry}
 use Rattle.command.specs.declared.Command.{Command}
 use Rattle.command.specs.Commands.{echoOf}
 use Rattle.phrase.specs.Spelling.{Row}
-use Rattle.phrase.specs.Reading.{firsts, readCommand, echoPlace}
+use Rattle.phrase.specs.Reading.{firsts, readCommand}
 use Rattle.phrase.specs.declared.WordsRead.{WordsRead}
 use Rattle.phrase.specs.declared.WordsRead.the-variants as Read
 use Rattle.phrase.proofs.Among.{_also_}
@@ -58,8 +58,14 @@ read-first p (w ∷ t) e = by-entry (Read.Refused 10) NoNumber w (firsts p t) e 
     also (λ q. (refl, refl))
     also Each.none)
 
-first-word : {ws : List (List ℕ)} {c : Command} {es : List (List ℕ)} → Row ws c es → NoNumber (headWord ws)
+pub first-word : {ws : List (List ℕ)} {c : Command} {es : List (List ℕ)} → Row ws c es → NoNumber (headWord ws)
 first-word {ws} r = read-first 0 ws (row-read 0 r)
+
+pub digit-begins : (c : ℕ) → valueOf c < 10 → beginsNumber c ≡ true
+digit-begins c v =
+    let low = none-below c in
+    begins-digit c (λ (e : c ≡ 43). omega (arith, low (omega arith))) (λ (e : c ≡ 45). omega (arith, low (omega arith)))
+    ∙ lt-ltb (valueOf c) 10 v
 
 address-starts : {w : List ℕ} {n : ℕ} → AddressWord w n → startsNumber w ≡ true
 unfolding startsNumber
@@ -67,10 +73,7 @@ address-starts {w} (address u h) = go w (unsigned-first u)
   where
     go : (w : List ℕ) → valueOf (getD w 0 0) < 10 → startsNumber w ≡ true
     go [] v = absurd (omega (arith, none-below 0 (omega arith)))
-    go (c ∷ w) v =
-        let low = none-below c in
-        begins-digit c (λ (e : c ≡ 43). omega (arith, low (omega arith))) (λ (e : c ≡ 45). omega (arith, low (omega arith)))
-        ∙ lt-ltb (valueOf c) 10 v
+    go (c ∷ w) v = digit-begins c v
 
 axis-read : {v : List ℕ} {k : ℕ} → AxisWord v k → (axisDigit v ≡ k) × (k < 10)
 unfolding axisDigit
@@ -97,7 +100,7 @@ module _ (l : List ℕ) (end : ℕ) where
       rw (address-starts a, address-read a, axis-read x .0, lt-ltb k 10 (axis-read x .1)) (row-asked l end n k (past 4) r (behind 4))
 
 -- what is read was written
-no-asked : {A : Type 0} {a : Asked} → none ≡ some a → A
+pub no-asked : {A : Type 0} {a : Asked} → none ≡ some a → A
 no-asked e = let z : _≡_ {A = ℕ} 0 1 = cc in absurd (omega arith)
 
 axis-is : (v : List ℕ) → axisDigit v < 10 → AxisWord v (axisDigit v)
@@ -127,7 +130,8 @@ module _ (l : List ℕ) (end : ℕ) where
   }
 
   axis-of : (past : ℕ → ℕ) (w : List ℕ) (n : ℕ) (t : List (List ℕ)) (a : Asked)
-      → ((i : ℕ) → cut (drop (past i) (take end l)) ≡ drop i t) → AddressWord w n → askedBy l (axisOf n end past t) ≡ some a → Words (w ∷ t) a
+      → ((i : ℕ) → cut (drop (past i) (take end l)) ≡ drop i t) → AddressWord w n → askedBy l (axisOf n end past t) ≡ some a
+      → Words (w ∷ t) a
   unfolding axisOf headWord tailWords axisDigit
   axis-of past w n [] a b h e = let m = told n 0 (past 2) [] a (readCommand (past 2) []) refl (b 2) e in rw (← m .is) (addressed h (m .row))
   axis-of past w n (v ∷ t) a b h e =
@@ -166,7 +170,7 @@ unfolding readAsked readLine
 written-read {l} (line c w k f h) =
     let r = composed-read (composed c k f h) in rw (r .frame) (content-read l (r .size) (rw (r .words) w))
 
-together : {l : List ℕ} {ws : List (List ℕ)} {a : Asked} → Composed l ws → Words ws a → Line l a
+pub together : {l : List ℕ} {ws : List (List ℕ)} {a : Asked} → Composed l ws → Words ws a → Line l a
 together (composed c k f h) w = line c w k f h
 
 read-written : (l : List ℕ) (a : Asked) (f : Frame) → frameOf l ≡ f → askedBy l (framed l f) ≡ some a → Line l a

@@ -4,9 +4,13 @@ pub mod Opened
 pub mod Carried
 pub mod Composed
 pub mod Demand3
+pub mod EveryLine
 pub mod Cases
 pub mod Ends
 pub mod Sums
 pub mod FromTheEnd
 pub mod Refused
+pub mod Exactly
 pub mod Every
+pub mod Fits
+pub mod ShortEcho

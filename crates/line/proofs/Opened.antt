@@ -9,9 +9,9 @@ use lib.ListN.{length, take, drop}
 use Rattle.numbers.specs.Reading.{readAddress}
 use Rattle.numbers.specs.declared.UnsignedRead.{UnsignedRead}
 use Rattle.numbers.specs.declared.UnsignedRead.the-variants as Unsigned
-use Rattle.words.specs.Cutting.{cut, headWord, tailWords, wordAt, pastOf, pastMany}
+use Rattle.words.specs.Cutting.{cut, headWord, wordAt, pastOf, pastMany}
 use Rattle.words.specs.declared.Word.{Word}
-use Rattle.words.proofs.Cut.{word-head, word-tail, word-past}
+use Rattle.words.proofs.Cut.{word-tail, word-past}
 use Rattle.phrase.specs.Reading.{readCommand}
 use Rattle.phrase.specs.declared.WordsRead.{WordsRead}
 use Rattle.line.specs.declared.Frame.{Frame}

@@ -23,7 +23,7 @@ use Rattle.phrase.specs.declared.WordsRead.{WordsRead}
 use Rattle.phrase.specs.declared.WordsRead.the-variants as Read
 use Rattle.phrase.proofs.Refused.{words-refused}
 use Rattle.line.specs.Spelling.{Footer}
-use Rattle.line.specs.Reading.{printable, frameOf, startsNumber, axisDigit, axisOf, addressOf, readWords, readLine, numberOf}
+use Rattle.line.specs.Reading.{printable, frameOf, startsNumber, axisDigit, axisOf, addressOf, readWords, readLine, numberOf, askedBy, readAsked}
 use Rattle.line.specs.Refusals.{body, tooLong, notLine, badSum, content, badAddress, own, refusalOf}
 use Rattle.line.specs.declared.Frame.{Frame}
 use Rattle.line.specs.declared.Frame.the-variants as Frame
@@ -129,6 +129,12 @@ line-refused l =
     with-slash : (t : List ℕ) → l ≡ 47 ∷ t → length l ≤ 80 → numberOf (readLine l) ≡ refusalOf l
     with-slash t q h = rw q (slash-refused t _ refl (rw q at h))
 
--- what `read_line` promises of its answer: its number is that of the table, where the opening is this line's
-pub answered : {r : LineRead} (l : List ℕ) (o : Opening) → r ≡ readOn l o → (r ≡ readOn l o) × (o ≡ openLine l → numberOf r ≡ refusalOf l)
-answered l o e = (e, (λ q. ap numberOf (e ∙ ap (readOn l) q ∙ opened-read l) ∙ line-refused l))
+-- what `read_line` promises of its answer: where the opening is this line's, its number is that of the table, and its command is
+-- the one that the line is read as
+pub answered : {r : LineRead} (l : List ℕ) (o : Opening) → r ≡ readOn l o
+    → (r ≡ readOn l o) × ((o ≡ openLine l → numberOf r ≡ refusalOf l) × (o ≡ openLine l → askedBy l r ≡ readAsked l))
+unfolding readAsked
+answered {r} l o e = (e, ((λ q. ap numberOf (whole q) ∙ line-refused l), (λ q. ap (askedBy l) (whole q))))
+  where
+    whole : o ≡ openLine l → r ≡ readLine l
+    whole q = e ∙ ap (readOn l) q ∙ opened-read l

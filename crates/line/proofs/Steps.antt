@@ -2,7 +2,7 @@
 -- Assumes nothing.
 use mathlib.Core.Path.{_≡_, refl, sym, ap, _∙_}
 use mathlib.Core.Logic.{⊎-elim}
-use mathlib.Core.Bool.{Bool, true, false}
+use mathlib.Core.Bool.{true, false}
 use mathlib.Core.List.{List, [], _∷_}
 use Prim.Native.Nat.{ℕ, zero, suc, _+_, _-_, _≤_, _<_, min}
 use native.Mathlib.Numerals.{add-one}
@@ -14,8 +14,7 @@ use borrow.Author.Tests.{eq-eqb, ne-eqb, lt-ltb, le-ltb}
 use Rattle.laws.specs.Lists.{span}
 use Rattle.laws.proofs.Order.{lt-or-le, eq-or-ne}
 use Rattle.laws.proofs.Span.{span-yes, span-not, span-none}
-use Rattle.numbers.specs.Reading.{valueOf, readAddress}
-use Rattle.numbers.specs.declared.UnsignedRead.{UnsignedRead}
+use Rattle.numbers.specs.Reading.{valueOf}
 use Rattle.words.specs.Cutting.{noSpace, cut, headWord, startOf, endOf, wordAt, pastOf, pastMany}
 use Rattle.words.specs.declared.Word.{Word}
 use Rattle.words.proofs.Space.{other-yes, other-not, at-word}
@@ -121,7 +120,8 @@ module _ (s : List ℕ) (at : ℕ) {a : ℕ} (q : a ≡ startOf s at) where
   digit-axis : digitAt s a ≡ axisDigit (headWord (cut (drop at s)))
   digit-axis =
       ⊎-elim (λ l. ⊎-elim (λ h. sym (digit-last s a l h) ∙ axis-last s at q l h)
-      (λ h. ⊎-elim (λ e. sym (digit-alone s a l h e) ∙ axis-alone s at q l h e) (λ e. sym (digit-longer s a l h e) ∙ axis-longer s at q l h e)
+      (λ h. ⊎-elim (λ e. sym (digit-alone s a l h e) ∙ axis-alone s at q l h e)
+      (λ e. sym (digit-longer s a l h e) ∙ axis-longer s at q l h e)
       (eq-or-ne (getD s (a + 1) 0) 32)) (eq-or-ne (length s - a) 1))
       (λ l. sym (digit-none s a l) ∙ axis-none s at q l)
       (lt-or-le a (length s))

@@ -21,7 +21,8 @@ unfolding Number.valueOf Number.scan Number.digitsFrom Number.startsHex Number.u
 openNumbers = 0
 
 unfoldable openWords : ℕ
-unfolding Words.isSpace Words.noSpace Words.grow Words.cut Words.headWord Words.tailWords Words.wordAt Words.pastOf Words.pastMany Find.meaningOf
+unfolding Words.isSpace Words.noSpace Words.grow Words.cut Words.headWord Words.tailWords Words.wordAt Words.pastOf
+    Words.pastMany Find.meaningOf
 openWords = 0
 
 unfoldable openCommand : ℕ

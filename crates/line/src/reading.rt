@@ -2,10 +2,9 @@
 // It is read in two steps, so that a line for another address is not read behind it. The rules are in specs/Reading.antt and
 // specs/Opening.antt; proofs/Demand3.antt shows that just what is spelled is read.
 ghost use mathlib.Core.Path.{_≡_};
-ghost use Prim.Native.Nat.{_≤_};
 ghost use lib.ListN.{length, take, drop};
 ghost use Rattle.words.specs.Cutting.{cut, headWord, pastMany};
-ghost use Rattle.line.specs.Reading.{beginsNumber, startsNumber, axisOf, numberOf};
+ghost use Rattle.line.specs.Reading.{beginsNumber, startsNumber, axisOf, numberOf, askedBy, readAsked};
 ghost use Rattle.line.specs.Refusals.{refusalOf};
 ghost use Rattle.line.specs.Opening.{digitAt, addressee, openWords, openLine, readOn};
 use crate::Frame;
@@ -116,6 +115,7 @@ fn up_to(s: &[u8], end: usize) -> &[u8]
 pub fn read_line(s: &[u8], o: Opening) -> LineRead
     ensures read { λ r. ⌜ r ≡ readOn (now (s .entry)) o ⌝ }
     ensures number { λ r. ⌜ (o ≡ openLine (now (s .entry)) → numberOf r ≡ refusalOf (now (s .entry))) ⌝ }
+    ensures asked { λ r. ⌜ (o ≡ openLine (now (s .entry)) → askedBy (now (s .entry)) r ≡ readAsked (now (s .entry))) ⌝ }
 {
     match o {
         Opening::Silent(n) => LineRead::Silent(n),

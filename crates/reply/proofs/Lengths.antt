@@ -7,7 +7,7 @@ use mathlib.Core.List.{List, [], _∷_}
 use Prim.Native.Nat.{ℕ, zero, suc, _+_, _*_, _≤_}
 use native.Mathlib.Omega.{arith}
 use lib.Dec.{eqb, leb→le}
-use lib.ListN.{length, take, drop, length-append, length-take}
+use lib.ListN.{length, take, drop, length-append}
 use Rattle.laws.specs.Text.{space, text, spaced}
 use Rattle.laws.proofs.Order.{eq-or-ne}
 use Rattle.laws.proofs.Bools.{clash}
@@ -20,8 +20,6 @@ use Rattle.words.proofs.Space.{other-yes, other-not}
 use Rattle.words.proofs.Cut.{cut-none, cut-space, cut-inside, cut-alone}
 use Rattle.flags.specs.Flags.{bits, named, warningNames}
 use Rattle.reply.specs.Data.{values, warningList, echoed, Named, refusals, nameIn, refusalName}
-use Rattle.reply.specs.Told.{carried, toldText}
-use Rattle.reply.specs.declared.told.Told.the-variants.{Words}
 use Rattle.reply.proofs.Lists.{decimals, list-split}
 
 -- ---- values: each of at most 11 bytes, behind a space

@@ -1,6 +1,5 @@
 -- The first word is the address word, or there is none.
 -- Assumes nothing.
-use native.Mathlib.Omega.{arith}
 use Rattle.words.proofs.Cut.{word-whole, word-within, word-head}
 use Rattle.line.proofs.Opened.{open-address, open-bare}
 use borrow.Author.Needs.{needs}
