@@ -84,7 +84,7 @@ impl Device {
         self
     }
 
-    pub fn new(address: Number, count: u8, id: Number) -> Device
+    fn new(address: Number, count: u8, id: Number) -> Device
         ensures { λ r. ⌜ r ≡ freshOf address count id ⌝ }
     {
         let comm = Comm::fresh(address);

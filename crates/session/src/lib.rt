@@ -63,7 +63,7 @@ fn line_turn(d: Device, part: &[u8], out: &mut [u8], at: usize) -> Turned
 }
 
 // What one part makes of a record, and what it prints.
-fn turn(d: Device, part: &[u8], out: &mut [u8], at: usize) -> Turned
+pub fn turn(d: Device, part: &[u8], out: &mut [u8], at: usize) -> Turned
     ensures { λ t. ⌜ Took (turnOf d (now (part .entry))) (now (out .entry)) at t (now (out .exit)) ⌝ }
 {
     if is_report(part) {
@@ -74,10 +74,11 @@ fn turn(d: Device, part: &[u8], out: &mut [u8], at: usize) -> Turned
 }
 
 // The record that bench begins with.
-fn bench_device() -> Device
+pub fn bench_device() -> Device
     ensures { λ r. ⌜ r ≡ benchDeviceOf ⌝ }
 {
-    Device::new(Number(1), 2, Number(100))
+    let fresh = Device::fresh(Number(1), 2, Number(100));
+    fresh.next
 }
 
 // The parts of an input, from a record on.
