@@ -3,7 +3,7 @@
 use mathlib.Core.Bool.{Bool, true, false, cond}
 use mathlib.Core.List.{List}
 use Prim.Native.Nat.{ℕ}
-use lib.IntN.{pos}
+use lib.IntN.{pos as plus}
 use lib.ListN.{replicate}
 use Rattle.units.specs.Units.{position}
 use Rattle.settings.specs.Record.{freshSettings}
@@ -58,4 +58,4 @@ storedPositions = 16
 
 -- "each axis place idle, no reference, ... all else 0, no warnings"
 unfoldable pub freshAxis : Axis
-freshAxis = axis freshSettings Idle false 0 (replicate storedPositions (position (pos 0)))
+freshAxis = axis freshSettings Idle false 0 (replicate storedPositions (position (plus 0)))

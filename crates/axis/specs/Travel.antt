@@ -3,7 +3,7 @@
 use mathlib.Core.Bool.{Bool, true, cond, _&&_}
 use Prim.Native.Nat.{_-_}
 use lib.Dec.{leb}
-use lib.IntN.{ℤ, pos, negℤ, _+ℤ_}
+use lib.IntN.{ℤ, pos as plus, negℤ, _+ℤ_}
 use lib.ListN.{getD}
 use Rattle.units.specs.Units.{position, place, _to_, within}
 use Rattle.settings.specs.Types.{Position, Speed, Number, Target, Abs, Rel, Min, Max, Stored}
@@ -25,7 +25,7 @@ isPlace n = leb 1 (place (n .0)) && leb (place (n .0)) storedPositions
 
 -- the position stored under a number from 1 to 16, and 0 under any other
 unfoldable pub stored : Number → Axis → Position
-stored n a = cond (isPlace n) (getD (a .stored) (place (n .0) - 1) (position (pos 0))) (position (pos 0))
+stored n a = cond (isPlace n) (getD (a .stored) (place (n .0) - 1) (position (plus 0))) (position (plus 0))
 
 -- "move abs: target N. rel: pos plus N. min, max: that limit. stored: that position." The sum is of whole numbers.
 abbrev pub target : Target → Axis → ℤ

@@ -1,7 +1,7 @@
 -- A command as its row of the table of commands, counted from 0 for "(none)", and what it carries: the only list of all commands.
 -- A new row of the table takes the next number, so that none is numbered anew.
 use Prim.Native.Nat.{ℕ}
-use lib.IntN.{pos}
+use lib.IntN.{pos as plus}
 use Rattle.units.specs.Units.{number}
 use Rattle.units.specs.declared.Number.{Number}
 use Rattle.command.specs.declared.AxisSetting.the-variants.{Pos}
@@ -25,7 +25,7 @@ abbrev none : Setting
 none = OfAxis Pos
 
 abbrev zero : Number
-zero = number (pos 0)
+zero = number (plus 0)
 
 -- a row without a setting: with no number, with one, with two
 abbrev bare : ℕ → Form

@@ -2,7 +2,7 @@
 -- BADSTATE, 21: "record not good; fresh record asked out of range"
 use mathlib.Core.Bool.{Bool, cond, not, _&&_}
 use Prim.Native.Nat.{ℕ}
-use lib.IntN.{pos}
+use lib.IntN.{pos as plus}
 use Rattle.laws.specs.Lists.{all, any}
 use Rattle.laws.specs.Refusals.{BADSTATE, ACCEPTED}
 use Rattle.units.specs.Units.{number}
@@ -26,11 +26,11 @@ good d = all (inRange d) deviceSettings && (all goodAxis (axesOf d 0) && not (d 
 -- "A fresh record is asked for with address, axis count and device id"
 unfoldable pub mayBeFresh : Number → ℕ → Number → Bool
 mayBeFresh address count id =
-    deviceAllows CommAddress address && (deviceAllows SystemAxisCount (number (pos count)) && deviceAllows DeviceId id)
+    deviceAllows CommAddress address && (deviceAllows SystemAxisCount (number (plus count)) && deviceAllows DeviceId id)
 
 -- the record beside the 21 is of no account: it is always the same
 unfoldable pub askFresh : Number → ℕ → Number → Outcome
 askFresh address count id =
     cond (mayBeFresh address count id)
     (record { number = ACCEPTED; next = fresh address count id })
-    (record { number = BADSTATE; next = fresh (number (pos 1)) 1 (number (pos 0)) })
+    (record { number = BADSTATE; next = fresh (number (plus 1)) 1 (number (plus 0)) })

@@ -4,7 +4,7 @@ use mathlib.Core.Bool.{Bool, false, cond}
 use mathlib.Core.List.{List}
 use Prim.Native.Nat.{ℕ, _-_}
 use lib.Dec.{eqb}
-use lib.IntN.{pos}
+use lib.IntN.{pos as plus}
 use lib.ListN.{take, drop, replicate}
 use Rattle.laws.specs.Lists.{changeFrom}
 use Rattle.units.specs.Units.{number}
@@ -34,7 +34,7 @@ value CommAlert d = d .comm .alert
 value CommChecksum d = d .comm .checksum
 value SystemAccess d = d .access
 value DeviceId d = d .id
-value SystemAxisCount d = number (pos (d .count))
+value SystemAxisCount d = number (plus (d .count))
 
 -- the device with one of its settings set to n; what is read only stays
 abbrev pub put : DeviceSetting → Number → Device → Device
@@ -58,8 +58,8 @@ onAxes g k d = withAxes (changeFrom g (k - 1) (many d k) (d .axes)) d
 
 -- "alert 0, checksum 0"
 abbrev pub freshComm : Number → Comm
-freshComm address = comm address (number (pos 0)) (number (pos 0))
+freshComm address = comm address (number (plus 0)) (number (plus 0))
 
 -- "not parked, alert 0, checksum 0, access 1"
 unfoldable pub fresh : Number → ℕ → Number → Device
-fresh address count id = device (freshComm address) (number (pos 1)) id count false (replicate 4 freshAxis)
+fresh address count id = device (freshComm address) (number (plus 1)) id count false (replicate 4 freshAxis)

@@ -121,7 +121,7 @@ pub decimal-spelled : (z : ℤ) → SFits w32 z → NumberWord (decimal z) z
 unfolding decimal
 decimal-spelled (pos n) f = let h = f .sfits in NumberWord.bare (UnsignedWord.decimal (digits-spelled n (omega arith))) (omega arith)
 decimal-spelled (negsuc n) f = let h = f .sfits in
-    NumberWord.minus (UnsignedWord.decimal (digits-spelled (suc n) (omega arith))) (omega arith)
+    NumberWord.signed-minus (UnsignedWord.decimal (digits-spelled (suc n) (omega arith))) (omega arith)
 
 -- an address in two digits is an address word
 pub two-spelled : (n : ℕ) → n ≤ 99 → Digits 10 (twoDigits n) n

@@ -14,7 +14,7 @@ use Rattle.laws.proofs.Order.{lt-or-le, eq-or-ne}
 use Rattle.laws.proofs.Bools.{clash}
 use Rattle.numbers.specs.Checksum.{checksum}
 use Rattle.numbers.specs.Reading.{valueOf, digitsFrom, startsHex, unsignedFrom, readAddress, above, below, readNumber, readPair, saysSum}
-use Rattle.numbers.specs.Spelling.{UnsignedWord, decimal, hex, NumberWord, bare, plus, minus, AddressWord, address, HexPair, pair}
+use Rattle.numbers.specs.Spelling.{UnsignedWord, decimal, hex, NumberWord, bare, signed-plus, signed-minus, AddressWord, address, HexPair, pair}
 use Rattle.numbers.specs.declared.UnsignedRead.{UnsignedRead}
 use Rattle.numbers.specs.declared.UnsignedRead.the-variants as Unsigned
 use Rattle.numbers.specs.declared.NumberRead.{NumberRead}
@@ -111,8 +111,8 @@ pub number-read : {s : List ℕ} {v : ℤ} → NumberWord s v → readNumber s �
 unfolding text
 number-read (bare {s} {n} u h) =
     answers.read-bare s (not-empty u) (no-sign u 45 (omega arith)) (no-sign u 43 (omega arith)) ∙ ap above (unsigned-read 2147483647 0 u h)
-number-read (plus {s} {n} u h) = answers.read-plus (text "+" ++ s) refl ∙ ap above (unsigned-read 2147483647 1 u h)
-number-read (minus {s} {n} u h) = answers.read-minus (text "-" ++ s) refl ∙ ap below (unsigned-read 2147483648 1 u h)
+number-read (signed-plus {s} {n} u h) = answers.read-plus (text "+" ++ s) refl ∙ ap above (unsigned-read 2147483647 1 u h)
+number-read (signed-minus {s} {n} u h) = answers.read-minus (text "-" ++ s) refl ∙ ap below (unsigned-read 2147483648 1 u h)
 
 -- a value that is read is read as one number
 worth : NumberRead → ℤ
@@ -138,10 +138,10 @@ number-of [] v e = let z : _≡_ {A = ℕ} 0 1 = cc in absurd (omega arith)
 number-of (c ∷ s) v e =
     ⊎-elim (λ m. let k = below-is (unsignedFrom 2147483648 1 s) v (sym (answers.read-minus (c ∷ s) m) ∙ e) in
     let u = unsigned-is 2147483648 1 s (k .0) (k .1) in
-    rw (m, ← k .2) (minus (u .0) (u .1)))
+    rw (m, ← k .2) (signed-minus (u .0) (u .1)))
     (λ m. ⊎-elim (λ p. let k = above-is (unsignedFrom 2147483647 1 s) v (sym (answers.read-plus (c ∷ s) p) ∙ e) in
     let u = unsigned-is 2147483647 1 s (k .0) (k .1) in
-    rw (p, ← k .2) (plus (u .0) (u .1)))
+    rw (p, ← k .2) (signed-plus (u .0) (u .1)))
     (λ p. let k = above-is (unsignedFrom 2147483647 0 (c ∷ s)) v
     (sym (answers.read-bare (c ∷ s) (λ (z : length (c ∷ s) ≡ 0). omega arith) m p) ∙ e) in
     let u = unsigned-is 2147483647 0 (c ∷ s) (k .0) (k .1) in

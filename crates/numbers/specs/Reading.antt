@@ -4,10 +4,11 @@ use mathlib.Core.Bool.{Bool, false, cond, _&&_}
 use mathlib.Core.List.{List, [], _∷_}
 use Prim.Native.Nat.{ℕ, suc, _+_, _*_, _-_, _≤_}
 use lib.Dec.{eqb, ltb, leb}
-use lib.IntN.{pos, negℤ}
+use lib.IntN.{pos as plus}
 use lib.ListN.{take, drop}
 use Rattle.numbers.specs.Checksum.{checksum}
 use Rattle.numbers.specs.Spelling.{highestAddress}
+use Rattle.units.specs.Units.{minus}
 use Rattle.laws.specs.Text.{plus-sign, minus-sign, text, same}
 use Rattle.numbers.specs.declared.UnsignedRead.{UnsignedRead}
 use Rattle.numbers.specs.declared.UnsignedRead.the-variants as Unsigned
@@ -57,11 +58,11 @@ unfoldable pub readAddress : List ℕ → UnsignedRead
 readAddress w = unsignedFrom highestAddress 0 w
 
 abbrev pub above : UnsignedRead → NumberRead
-above (Unsigned.Value n) = Number.Value (record { 0 = pos n })
+above (Unsigned.Value n) = Number.Value (record { 0 = plus n })
 above (Unsigned.Refused p) = Number.Refused p
 
 abbrev pub below : UnsignedRead → NumberRead
-below (Unsigned.Value n) = Number.Value (record { 0 = negℤ (pos n) })
+below (Unsigned.Value n) = Number.Value (record { 0 = minus n })
 below (Unsigned.Refused p) = Number.Refused p
 
 -- a number: a sign or none, and a range with two different ends

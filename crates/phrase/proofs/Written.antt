@@ -13,7 +13,7 @@ use Rattle.laws.specs.Lists.{fold, all}
 use Rattle.laws.specs.Text.{text}
 use Rattle.laws.proofs.Bools.{and-left, and-right}
 use Rattle.laws.proofs.Each.{Each}
-use Rattle.numbers.specs.Spelling.{Digit, figure, capital, small, Digits, UnsignedWord, decimal, hex, NumberWord, bare, plus, minus}
+use Rattle.numbers.specs.Spelling.{Digit, figure, capital, small, Digits, UnsignedWord, decimal, hex, NumberWord, bare, signed-plus, signed-minus}
 use Rattle.numbers.proofs.Decimal.{decimal-spelled}
 use Rattle.words.specs.Spelling.{WordByte, Word}
 use Rattle.command.specs.declared.AxisSetting.the-variants as AxisSetting
@@ -116,8 +116,8 @@ unsigned-word (hex r) = Word.more (byte-of 48 refl) (Word.more (byte-of 120 refl
 pub number-word : {s : List ℕ} {n : ℤ} → NumberWord s n → Word s
 unfolding text
 number-word (bare u h) = unsigned-word u
-number-word (plus u h) = Word.more (byte-of 43 refl) (unsigned-word u)
-number-word (minus u h) = Word.more (byte-of 45 refl) (unsigned-word u)
+number-word (signed-plus u h) = Word.more (byte-of 43 refl) (unsigned-word u)
+number-word (signed-minus u h) = Word.more (byte-of 45 refl) (unsigned-word u)
 
 name-tested : (s : Setting) → isWord (nameOf s) ≡ true
 unfolding nameOf text

@@ -4,7 +4,7 @@ use mathlib.Core.Path.{_≡_}
 use mathlib.Core.Bool.{cond}
 use mathlib.Core.List.{List, [], _∷_, _++_}
 use Prim.Native.Nat.{ℕ}
-use lib.IntN.{pos}
+use lib.IntN.{pos as plus}
 use lib.ListN.{take, replicate}
 use Rattle.laws.specs.Text.{text}
 use Rattle.laws.specs.Refusals.{BADREPORT}
@@ -52,7 +52,7 @@ turns d (p ∷ ps) = turn d p .prints ++ turns (turn d p .next) ps
 
 -- "that fresh record with device id 100": address 1, two axes
 unfoldable pub benchDevice : Device
-benchDevice = fresh (number (pos 1)) 2 (number (pos 100))
+benchDevice = fresh (number (plus 1)) 2 (number (plus 100))
 
 -- "reads at most 4,096 bytes of standard input ... later input is not read"
 abbrev pub longestInput : ℕ

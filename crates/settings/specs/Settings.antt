@@ -1,7 +1,7 @@
 -- Document 01's table of settings: each one's range, where an axis keeps it, and the axis's settings with another value.
 -- Names, access and when a setting may be written are in the crate `command`.
 use mathlib.Core.Bool.{Bool}
-use lib.IntN.{pos}
+use lib.IntN.{pos as plus}
 use Rattle.units.specs.Units.{minus, position, speed, number, _to_, within}
 use Rattle.settings.specs.Types.{Number, Range, AxisSetting, Pos, LimitMin, LimitMax, MaxSpeed, Accel, DriverCurrentMax, DriverCurrentRun, DriverCurrentHold, DriverDir, EncoderIndexCount, DeviceSetting, CommAddress, CommAlert, CommChecksum, SystemAccess, DeviceId, SystemAxisCount}
 use Rattle.settings.specs.declared.Settings.{Settings}
@@ -9,24 +9,24 @@ use Rattle.settings.specs.Record.{settings, limit, current}
 
 -- a range's ends may be other settings of the axis: "min not above max", "0 to driver.current.max"
 abbrev pub range : AxisSetting → Settings → Range
-range Pos s = minus 1000000000 to pos 1000000000
+range Pos s = minus 1000000000 to plus 1000000000
 range LimitMin s = minus 1000000000 to s .limit .max .0
-range LimitMax s = s .limit .min .0 to pos 1000000000
-range MaxSpeed s = pos 1 to pos 1000000000
-range Accel s = pos 0 to pos 32767
-range DriverCurrentMax s = pos 0 to pos 255
-range DriverCurrentRun s = pos 0 to s .current .max .0
-range DriverCurrentHold s = pos 0 to s .current .max .0
-range DriverDir s = pos 0 to pos 1
-range EncoderIndexCount s = minus 32768 to pos 32767
+range LimitMax s = s .limit .min .0 to plus 1000000000
+range MaxSpeed s = plus 1 to plus 1000000000
+range Accel s = plus 0 to plus 32767
+range DriverCurrentMax s = plus 0 to plus 255
+range DriverCurrentRun s = plus 0 to s .current .max .0
+range DriverCurrentHold s = plus 0 to s .current .max .0
+range DriverDir s = plus 0 to plus 1
+range EncoderIndexCount s = minus 32768 to plus 32767
 
 abbrev pub deviceRange : DeviceSetting → Range
-deviceRange CommAddress = pos 1 to pos 99
-deviceRange CommAlert = pos 0 to pos 1
-deviceRange CommChecksum = pos 0 to pos 1
-deviceRange SystemAccess = pos 1 to pos 2
-deviceRange DeviceId = pos 0 to pos 2147483647
-deviceRange SystemAxisCount = pos 1 to pos 4
+deviceRange CommAddress = plus 1 to plus 99
+deviceRange CommAlert = plus 0 to plus 1
+deviceRange CommChecksum = plus 0 to plus 1
+deviceRange SystemAccess = plus 1 to plus 2
+deviceRange DeviceId = plus 0 to plus 2147483647
+deviceRange SystemAxisCount = plus 1 to plus 4
 
 -- the value that an axis has
 abbrev pub value : AxisSetting → Settings → Number
