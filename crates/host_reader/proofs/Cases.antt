@@ -12,7 +12,7 @@ use Rattle.numbers.specs.Checksum.{total, checksum}
 use Rattle.numbers.specs.Reading.{valueOf, readPair}
 use Rattle.words.specs.Find.{index}
 use Rattle.flags.specs.Flags.{warningNames}
-use Rattle.host_reader.specs.Reading.{field, stands, marked, twoOf, verdicts, statuses, warnings, headIn, rightHead, dataByte, dataLength, rightEnd, framed, messageOf, readReply}
+use Rattle.host_reader.specs.Reading.{field, stands, marked, twoOf, verdicts, statuses, warnings, headIn, rightHead, dataByte, dataLength, rightEnd, framed, messageOf, isReply, readReply}
 use Rattle.host_reader.specs.declared.ReplyRead.{ReplyRead}
 use Rattle.host_reader.specs.declared.ReplyRead.the-variants.{Reply, NotReply}
 
@@ -25,7 +25,7 @@ abbrev says : List ℕ → ℕ → ℕ → Bool → Bool → ℕ → ℕ → Row
 says l a k ok busy w n = record {
   line = l;
   answer =
-      Reply (record { address = a; axis = k; ok = ok; busy = busy; warning = w; length = n });
+      Reply (record { address = a; axis = k; ok = ok; busy = busy; warning = w; place = 17; length = n });
 }
 
 abbrev none : String → Row
@@ -77,6 +77,6 @@ rows =
     ∷ []
 
 pub reply-cases : map (λ r. readReply (r .line)) rows ≡ map (λ r. r .answer) rows
-unfolding rows readReply framed marked stands field headIn rightHead messageOf twoOf verdicts statuses warnings warningNames dataLength
+unfolding rows readReply isReply framed marked stands field headIn rightHead messageOf twoOf verdicts statuses warnings warningNames dataLength
     dataByte rightEnd span index valueOf readPair total checksum text same
 reply-cases = refl

@@ -1,4 +1,4 @@
--- Every reply that the device writes is read by the host as what was put in, with a checksum and without.
+-- Every reply that fits into 96 bytes is read by the host as what was put in, with a checksum (74 bytes of data) and without (77).
 -- It is so because the reply's text is a spelling of that reply. Assumes nothing.
 use mathlib.Core.Path.{_≡_, refl, subst}
 use mathlib.Core.Bool.{Bool, true, false, cond}
@@ -9,6 +9,7 @@ use native.Mathlib.Nat.{mod-eq-of-lt}
 use lib.Dec.{ltb}
 use lib.ListN.{length}
 use borrow.Author.Tests.{le-ltb}
+use Rattle.laws.specs.Text.{text}
 use Rattle.numbers.specs.Checksum.{checksum}
 use Rattle.numbers.specs.Decimal.{lastDigit, digits, twoDigits}
 use Rattle.numbers.specs.Spelling.{Digit}
@@ -18,10 +19,10 @@ use Rattle.reply.specs.Pieces.{warningAt}
 use Rattle.reply.specs.Reply.{verdict, status, highest, body, ending, reply}
 use Rattle.reply.specs.declared.Head.{Head}
 use Rattle.reply.proofs.Texts.{highest-is, sum-wanted, sum-unwanted}
-use Rattle.reply.proofs.Room.{reply-length}
+use Rattle.reply.proofs.Room.{mostData, head-length, reply-length}
 use Rattle.host_reader.specs.Spelling.{Address, Axis, Verdict, accepted, rejected, Status, idle, busy, Warning, fd, fq, fs, ft, fb, fp, fe, wr, Data, End, bare, summed}
 use Rattle.host_reader.specs.Spelling as spelling
-use Rattle.host_reader.specs.Reading.{readReply}
+use Rattle.host_reader.specs.Reading.{dataPlace, readReply}
 use Rattle.host_reader.specs.declared.Message.{Message}
 use Rattle.host_reader.specs.declared.ReplyRead.the-variants.{Reply}
 use Rattle.host_reader.proofs.Replies.{reply-read}
@@ -39,9 +40,9 @@ heardOf h words = record {
   address = h .address;
   axis = h .axis;
   ok = h .ok;
-  busy =
-      h .busy;
+  busy = h .busy;
   warning = highestPlace (h .warnings);
+  place = dataPlace;
   length = length words;
 }
 
@@ -99,11 +100,12 @@ end-spelled false s = rw (sum-unwanted false s refl) bare
 
 -- ---- the whole
 module _ (h : Head) (sum : Bool) (words : List ℕ) (some : 1 ≤ h .address) (most : h .address ≤ 99) (one : h .axis ≤ 9) (said : Data words)
-    (short : length words ≤ 74) where
+    (short : length words ≤ mostData sum) where
   pub reply-spelled : spelling.Reply (reply h sum words) (heardOf h words)
-  unfolding reply body
+  unfolding reply body text
   reply-spelled =
-      spelling.reply
+      rw (← head-length h (omega arith))
+      (spelling.reply
       (address-spelled (h .address) some most)
       (axis-spelled (h .axis) one)
       (verdict-spelled (h .ok))
@@ -111,7 +113,7 @@ module _ (h : Head) (sum : Bool) (words : List ℕ) (some : 1 ≤ h .address) (m
       (highest-spelled (h .warnings))
       said
       (end-spelled sum (body h words))
-      (reply-length h (omega arith) sum words short)
+      (reply-length h (omega arith) sum words short))
 
   pub reads-back : readReply (reply h sum words) ≡ Reply (heardOf h words)
   reads-back = reply-read reply-spelled

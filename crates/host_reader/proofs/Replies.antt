@@ -21,7 +21,7 @@ use Rattle.numbers.proofs.Value.{digit-value, digit-below, digit-of}
 use Rattle.words.specs.Find.{index}
 use Rattle.host_reader.specs.Spelling.{Address, Axis, Data, begun, End}
 use Rattle.host_reader.specs.Spelling as spelling
-use Rattle.host_reader.specs.Reading.{field, stands, marked, twoOf, verdicts, statuses, warnings, headIn, rightHead, dataByte, dataLength, rightEnd, framed, messageOf, readReply, numberOf}
+use Rattle.host_reader.specs.Reading.{field, stands, marked, twoOf, verdicts, statuses, warnings, headIn, rightHead, dataByte, dataLength, rightEnd, framed, messageOf, isReply, readReply, numberOf}
 use Rattle.host_reader.specs.declared.Message.{Message}
 use Rattle.host_reader.specs.declared.Head.{Head}
 use Rattle.host_reader.specs.declared.ReplyRead.{ReplyRead}
@@ -49,7 +49,7 @@ two-digits {t = t} {u} x y = simp (
   lt-ltb u 10 (digit-below y),
 )
 
--- a line whose marks stand in their places, with its fields between them
+-- a line whose marks stand in their places, with its fields between them; what stands before the data is its front
 abbrev pub lineOf : ℕ → ℕ → ℕ → List ℕ → List ℕ → List ℕ → List ℕ → List ℕ
 lineOf c b k v s w d = text "@" ++ spaced ((c ∷ b ∷ []) ∷ (k ∷ []) ∷ v ∷ s ∷ w ∷ d ∷ [])
 
@@ -112,8 +112,9 @@ reply-read (spelling.reply {v = v} {s} {w} {d} {e} {i = i} (Address.two {c} {d =
       lt-ltb _ 2 (busy .below),
       lt-ltb i 9 (flag .below),
     ) in
+    let front = found c b k [] [] (verdict-two verdict) (status-four status) (warning-two warning) .front in
     whole (lineOf c b k v s w d ++ e) short (and-both _ _ (frame c b k v s w d e f said end) right)
-    ∙ ap Reply (rw (f .head, size c b k v s w d e f said end, address, axis, ok .says, busy .says, flag .place))
+    ∙ ap Reply (rw (f .head, size c b k v s w d e f said end, address, axis, ok .says, busy .says, flag .place, front))
 
 -- ---- what is read is what Spelling writes
 two-some : (t u : ℕ) → 1 ≤ twoOf t u → (t < 10) × (u < 10) × (twoOf t u ≡ t * 10 + u)
@@ -159,13 +160,17 @@ composed c b k v s w r h some first end short =
     let digits = two-some (valueOf c) (valueOf b) (h .address) in
     let same : lineOf c b k v s w (take n r) ++ drop n r ≡ lineOf c b k v s w r = joined c b k v s w r n in
     let size : length (take n r) ≡ n = length-take-le n r (span-le dataByte r) in
-    rw (same, size, ← digits .2) at
+    let verdict = verdict-of v (h .verdict) in
+    let status = status-of s (h .status) in
+    let warning = warning-of w (h .warning) in
+    let front = found c b k [] [] (verdict-two verdict) (status-four status) (warning-two warning) .front in
+    rw (same, size, front, ← digits .2) at
     (spelling.reply
     (Address.two (digit-of 10 c (omega arith) (digits .0)) (digit-of 10 b (omega arith) (digits .1)) (rw (digits .2) at (h .address)))
     (Axis.one (digit-of 10 k (omega arith) (h .axis)))
-    (verdict-of v (h .verdict))
-    (status-of s (h .status))
-    (warning-of w (h .warning))
+    verdict
+    status
+    warning
     (data-of r some first)
     end
     (rw same short))
@@ -250,7 +255,7 @@ spelled (more {c = c0} (more {c = c1} (more {c = c2}
     (rw (e3, e5, e8, e13, e16) at ends) short)
 
 pub reply-of : (l : List ℕ) (h : Message) → readReply l ≡ Reply h → spelling.Reply l h
-unfolding readReply
+unfolding readReply isReply
 reply-of l h e = go (leb (length l) 96 && framed l (17 + dataLength l) && rightHead (headIn l)) refl
   where
     go : (t : Bool) → (leb (length l) 96 && framed l (17 + dataLength l) && rightHead (headIn l)) ≡ t → spelling.Reply l h

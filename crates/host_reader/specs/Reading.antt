@@ -6,7 +6,7 @@ use Prim.Native.Nat.{ℕ, _+_, _*_}
 use lib.Dec.{eqb, ltb, leb}
 use lib.ListN.{length, getD, take, drop}
 use Rattle.laws.specs.Lists.{span}
-use Rattle.laws.specs.Refusals.{NOTREPLY}
+use Rattle.laws.specs.Refusals.{_when_, firstOf, ACCEPTED, NOTREPLY}
 use Rattle.laws.specs.Text.{colon, text, same}
 use Rattle.numbers.specs.Reading.{valueOf, readPair, saysSum}
 use Rattle.words.specs.Find.{index}
@@ -80,16 +80,28 @@ framed l end = marked l && ltb dataPlace end && not (stands l dataPlace (text " 
 
 unfoldable pub messageOf : Head → ℕ → Message
 messageOf h n =
-    record { address = h .address; axis = h .axis; ok = eqb (h .verdict) 1; busy = eqb (h .status) 1; warning = h .warning; length = n }
+    record {
+      address = h .address;
+      axis = h .axis;
+      ok = eqb (h .verdict) 1;
+      busy = eqb (h .status) 1;
+      warning = h .warning;
+      place = dataPlace;
+      length = n;
+    }
 
--- "at most 96 bytes in all"
+-- "exactly this form", and "at most 96 bytes in all"
+unfoldable pub isReply : List ℕ → Bool
+isReply l = leb (length l) longestReply && framed l (dataPlace + dataLength l) && rightHead (headIn l)
+
 unfoldable pub readReply : List ℕ → ReplyRead
-readReply l =
-    cond (leb (length l) longestReply && framed l (dataPlace + dataLength l) && rightHead (headIn l))
-    (Reply (messageOf (headIn l) (dataLength l)))
-    NotReply
+readReply l = cond (isReply l) (Reply (messageOf (headIn l) (dataLength l))) NotReply
 
--- document 01's number for each case of the answer: "Accepted is 0", and NOTREPLY is 30
+-- document 01's number for each case of the answer
 abbrev pub numberOf : ReplyRead → ℕ
-numberOf (Reply h) = 0
+numberOf (Reply h) = ACCEPTED
 numberOf NotReply = NOTREPLY
+
+-- "Otherwise NOTREPLY."
+unfoldable pub replyRefusal : List ℕ → ℕ
+replyRefusal l = firstOf (NOTREPLY when not (isReply l) ∷ [])

@@ -57,10 +57,18 @@ pub data End (s : List ℕ) : List ℕ → Type 0 where
   summed : {p : List ℕ} → HexPair p (checksum s) → End s (text ":" ++ p ++ text "\r\n")
 
 -- "`@`, address in two digits, axis, OK or RJ, IDLE or BUSY, highest warning or `--`, data; single spaces between";
--- "at most 96 bytes in all"
+-- "at most 96 bytes in all". The data stand behind all that is composed before them.
 pub data Reply : List ℕ → Message → Type 0 where
   reply : {a k v s w d e : List ℕ} {n m i : ℕ} {ok busy : Bool} → Address a n → Axis k m → Verdict v ok → Status s busy → Warning w i
       → Data d
       → End (spaced (a ∷ k ∷ v ∷ s ∷ w ∷ d ∷ [])) e → length (text "@" ++ spaced (a ∷ k ∷ v ∷ s ∷ w ∷ d ∷ []) ++ e) ≤ longestReply
       → Reply (text "@" ++ spaced (a ∷ k ∷ v ∷ s ∷ w ∷ d ∷ []) ++ e)
-      (record { address = n; axis = m; ok = ok; busy = busy; warning = i; length = length d })
+      (record {
+        address = n;
+        axis = m;
+        ok = ok;
+        busy = busy;
+        warning = i;
+        place = length (text "@" ++ spaced (a ∷ k ∷ v ∷ s ∷ w ∷ [] ∷ []));
+        length = length d;
+      })

@@ -1,8 +1,8 @@
-// The host's reader of replies: what a reply says, and how many bytes of data it has.
+// The host's reader of replies: what a reply says, and where its data stand.
 // The rules are in specs/Reading.antt; proofs/Replies.antt shows that just what is spelled is read.
 ghost use mathlib.Core.Path.{_≡_};
 ghost use Prim.Native.Nat.{_+_};
-ghost use Rattle.host_reader.specs.Reading.{dataPlace, dataLength, rightEnd, framed, readReply};
+ghost use Rattle.host_reader.specs.Reading.{dataPlace, dataLength, rightEnd, framed, readReply, numberOf, replyRefusal};
 use crate::DATA_PLACE;
 use crate::Message;
 use crate::ReplyRead;
@@ -57,7 +57,8 @@ fn is_framed(line: &[u8], end: usize) -> bool
 }
 
 pub fn read_reply(line: &[u8]) -> ReplyRead
-    ensures { λ r. ⌜ r ≡ readReply (now (line .entry)) ⌝ }
+    ensures read { λ r. ⌜ r ≡ readReply (now (line .entry)) ⌝ }
+    ensures number { λ r. ⌜ numberOf r ≡ replyRefusal (now (line .entry)) ⌝ }
 {
     if LONGEST_REPLY < line.len() {
         return ReplyRead::NotReply;
@@ -71,6 +72,7 @@ pub fn read_reply(line: &[u8]) -> ReplyRead
             ok: h.verdict == 1,
             busy: h.status == 1,
             warning: h.warning,
+            place: DATA_PLACE,
             length: end - DATA_PLACE,
         });
     }

@@ -1,13 +1,15 @@
 -- The line of a motor report, as the code finds its words one behind the other.
 -- Assumes nothing.
 use mathlib.Core.Path.{_≡_, refl, sym, ap, _∙_}
-use mathlib.Core.Bool.{true, false}
+use mathlib.Core.Bool.{Bool, true, false, cond, not, _&&_}
 use mathlib.Core.List.{List, [], _∷_}
 use Prim.Native.Nat.{ℕ, _≤_, _<_}
 use native.Mathlib.Omega.{arith}
+use lib.Dec.{ltb}
 use lib.ListN.{length, take, drop}
-use borrow.Author.Tests.{lt-ltb, le-ltb}
-use Rattle.laws.specs.Lists.{span}
+use borrow.Author.Tests.{ne-eqb, lt-ltb, le-ltb}
+use Rattle.laws.specs.Lists.{fold, span}
+use Rattle.laws.specs.Refusals.{firstOf}
 use Rattle.laws.specs.Text.{text, same}
 use Rattle.numbers.specs.declared.NumberRead.{NumberRead}
 use Rattle.numbers.specs.declared.NumberRead.the-variants.{Value, Refused}
@@ -17,7 +19,7 @@ use Rattle.line.specs.Spelling.{longestLine}
 use Rattle.line.specs.Reading.{printable, isFooter}
 use Rattle.input.specs.declared.reports.ReportRead.{ReportRead}
 use Rattle.input.specs.declared.reports.ReportRead.the-variants.{Misspelt}
-use Rattle.input.specs.ReportLines.{numbersOf, reportWords, framed, readReport}
+use Rattle.input.specs.ReportLines.{numbersOf, reportWords, framed, readReport, numberOf, isNumber, spelledSo, lineRefusal}
 
 -- a word that is missing is no number
 no-last : (x y : NumberRead) → numbersOf x y (readNumber []) ≡ Misspelt
@@ -78,6 +80,44 @@ module _ (s : List ℕ) {e : ℕ} (q : e ≡ span printable s) where
   pub footer-not : isFooter (drop e s) ≡ false → Misspelt ≡ framed s
   unfolding framed
   footer-not h = rw (← q, h)
+
+-- ---- the number of what is read, by the table
+three : (x y z : NumberRead) → numberOf (numbersOf x y z) ≡ cond (not (isNumber x && (isNumber y && (isNumber z && true)))) 22 0
+three (Refused p) y z = refl
+three (Value a) (Refused p) z = refl
+three (Value a) (Value k) (Refused p) = refl
+three (Value a) (Value k) (Value n) = refl
+
+words-number : (ws : List (List ℕ)) → numberOf (reportWords ws) ≡ cond (not (spelledSo ws)) 22 0
+unfolding reportWords spelledSo headWord tailWords fold
+words-number [] = refl
+words-number (r ∷ []) = refl
+words-number (r ∷ a ∷ []) = refl
+words-number (r ∷ a ∷ k ∷ []) = refl
+words-number (r ∷ a ∷ k ∷ n ∷ []) = go (same r (text "R"))
+  where
+    go : (t : Bool) → numberOf (cond t (numbersOf (readNumber a) (readNumber k) (readNumber n)) Misspelt)
+        ≡ cond (not (t && (isNumber (readNumber a) && (isNumber (readNumber k) && (isNumber (readNumber n) && true))))) 22 0
+    go true = three (readNumber a) (readNumber k) (readNumber n)
+    go false = refl
+words-number (r ∷ a ∷ k ∷ n ∷ x ∷ ws) = rw (ne-eqb (length (r ∷ a ∷ k ∷ n ∷ x ∷ ws)) 4 (λ e. omega arith))
+
+line-number : (s : List ℕ) → numberOf (readReport s) ≡ lineRefusal s
+unfolding readReport framed lineRefusal firstOf
+line-number s = go (ltb longestLine (length s)) (isFooter (drop (span printable s) s))
+  where
+    words : List (List ℕ)
+    words = cut (take (span printable s) s)
+
+    go : (t f : Bool) → numberOf (cond t Misspelt (cond f (reportWords words) Misspelt))
+        ≡ cond t 22 (cond (not f) 22 (cond (not (spelledSo words)) 22 0))
+    go true f = refl
+    go false false = refl
+    go false true = words-number words
+
+-- what `read_report` promises of its answer
+pub told : {r : ReportRead} (s : List ℕ) → r ≡ readReport s → (r ≡ readReport s) × (numberOf r ≡ lineRefusal s)
+told s e = (e, ap numberOf e ∙ line-number s)
 
 module _ (s : List ℕ) where
   pub too-long : longestLine < length s → Misspelt ≡ readReport s

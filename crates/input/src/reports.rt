@@ -4,7 +4,7 @@ ghost use mathlib.Core.Path.{_≡_};
 ghost use lib.ListN.{drop};
 ghost use Rattle.numbers.specs.Reading.{readNumber};
 ghost use Rattle.words.specs.Cutting.{cut, headWord, tailWords};
-ghost use Rattle.input.specs.ReportLines.{numbersOf, reportWords, framed as framedOf, readReport};
+ghost use Rattle.input.specs.ReportLines.{numbersOf, reportWords, framed as framedOf, readReport, numberOf, lineRefusal};
 use line::LONGEST_LINE;
 use numbers::NumberRead;
 use units::Number;
@@ -83,7 +83,8 @@ fn framed(s: &[u8]) -> ReportRead
 
 // The line of a motor report.
 pub fn read_report(s: &[u8]) -> ReportRead
-    ensures { λ r. ⌜ r ≡ readReport (now (s .entry)) ⌝ }
+    ensures read { λ r. ⌜ r ≡ readReport (now (s .entry)) ⌝ }
+    ensures number { λ r. ⌜ numberOf r ≡ lineRefusal (now (s .entry)) ⌝ }
 {
     if LONGEST_LINE < s.len() {
         return ReportRead::Misspelt;

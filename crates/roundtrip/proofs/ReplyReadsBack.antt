@@ -21,6 +21,7 @@ use Rattle.rules.specs.Refusals.{refusal}
 use Rattle.rules.specs.Effects.{next}
 use Rattle.reply.specs.Data.{refusalName}
 use Rattle.reply.proofs.Lengths.{refusal-length}
+use Rattle.reply.proofs.Room.{most-data}
 use Rattle.view.specs.View.{headOf}
 use Rattle.view.specs.Data.{dataOf}
 use Rattle.carriage.specs.Step.{Stepped, silent, written, wantsSum, replyOf, rejected, accepted, step}
@@ -69,7 +70,7 @@ module _ (n : ℕ) (d : Device) (k : ℕ) (ok : Bool) (words b : List ℕ) (g : 
       let address = good-address d g in
       record {
         message = ap readReply front ∙ reads-back (headOf d k ok) (wantsSum d) words (address .0) (address .1)
-            (omega (arith, digit)) said short;
+            (omega (arith, digit)) said (omega (arith, most-data (wantsSum d)));
         data-is = ap (λ (x : List ℕ). field x 17 (length words)) front ∙ data-stands (headOf d k ok) words digit (wantsSum d);
       }
 

@@ -10,7 +10,7 @@ returns : tie.Need-returns
 unfolding text
 returns c =
     let told = c .before .before .before .before .before .before in
-    took-report _ _ (told .before .read-report .ensures) (told .report-outcome .ensures) (c .before .before .put-told .ensures)
+    took-report _ _ (told .before .read-report .ensures .0) (told .report-outcome .ensures) (c .before .before .put-told .ensures)
 
 pub report-turn-spec : {M : Type 1} → statement M
 report-turn-spec =

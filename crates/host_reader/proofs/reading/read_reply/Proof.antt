@@ -1,12 +1,12 @@
 -- `host_reader::reading::read_reply` meets its contract: too long a line, a reply, or none.
 -- Assumes nothing.
-use Rattle.host_reader.proofs.Answers.{too-long, is-reply, no-reply}
+use Rattle.host_reader.proofs.Answers.{too-long, is-reply, no-reply, told}
 use borrow.Author.Needs.{needs}
 use Rattle.host_reader.proofs.reading.read_reply.Statement.{statement}
 use Rattle.host_reader.proofs.reading.read_reply.Tie as tie
 
 returns : tie.Need-returns
-returns c = too-long _ (c .if1 .taken)
+returns c = told _ (too-long _ (c .if1 .taken))
 
 returns-2 : tie.Need-returns-2
 returns-2 c =
@@ -15,8 +15,9 @@ returns-2 c =
     let framed = right .before in
     let head = framed .before in
     let end = head .before in
-    is-reply _ _ _ _ _ (end .before .if1 .left) (end .data-end .ensures) (head .read-head .ensures) (framed .is-framed .ensures)
-    (right .right-head .ensures) (if2 .if2 .taken)
+    told _
+    (is-reply _ _ _ _ _ (end .before .if1 .left) (end .data-end .ensures) (head .read-head .ensures) (framed .is-framed .ensures)
+    (right .right-head .ensures) (if2 .if2 .taken))
 
 returns-3 : tie.Need-returns-3
 returns-3 c =
@@ -24,8 +25,9 @@ returns-3 c =
     let framed = right .before in
     let head = framed .before in
     let end = head .before in
-    no-reply _ _ _ _ _ (end .before .if1 .left) (end .data-end .ensures) (head .read-head .ensures) (framed .is-framed .ensures)
-    (right .right-head .ensures) (c .if2 .left)
+    told _
+    (no-reply _ _ _ _ _ (end .before .if1 .left) (end .data-end .ensures) (head .read-head .ensures) (framed .is-framed .ensures)
+    (right .right-head .ensures) (c .if2 .left))
 
 pub read-reply-spec : {M : Type 1} → statement M
 read-reply-spec =
