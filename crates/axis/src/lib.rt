@@ -28,7 +28,7 @@ pub struct Axis {
 }
 
 impl Motion {
-    pub fn moving(self) -> bool
+    pub(crate) fn moving(self) -> bool
         ensures { λ r. ⌜ r ≡ inMotion self ⌝ }
     {
         match self {
@@ -40,7 +40,7 @@ impl Motion {
         }
     }
 
-    pub fn homing(self) -> bool
+    pub(crate) fn homing(self) -> bool
         ensures { λ r. ⌜ r ≡ isHoming self ⌝ }
     {
         match self {
@@ -54,7 +54,7 @@ impl Motion {
 }
 
 impl Axis {
-    pub fn with_settings(self, s: Settings) -> Axis
+    pub(crate) fn with_settings(self, s: Settings) -> Axis
         ensures { λ r. ⌜ r ≡ withSettings s self ⌝ }
     {
         let mut a = self;
@@ -62,7 +62,7 @@ impl Axis {
         a
     }
 
-    pub fn with_motion(self, m: Motion) -> Axis
+    pub(crate) fn with_motion(self, m: Motion) -> Axis
         ensures { λ r. ⌜ r ≡ withMotion m self ⌝ }
     {
         let s = self.settings;
@@ -84,7 +84,7 @@ impl Axis {
     }
 
     // A moving axis is stopping, an idle one stays idle.
-    pub fn stopped(self) -> Axis
+    pub(crate) fn stopped(self) -> Axis
         ensures { λ r. ⌜ r ≡ stopped self ⌝ }
     {
         if self.moving() {

@@ -14,7 +14,7 @@ use units::Reach;
 
 impl Axis {
     // To the target, if the axis may move there.
-    pub fn moved(self, t: Target) -> Axis
+    pub(crate) fn moved(self, t: Target) -> Axis
         ensures { λ r. ⌜ r ≡ movedTo t self ⌝ }
     {
         match self.aim(t) {
@@ -24,7 +24,7 @@ impl Axis {
     }
 
     // With p under the number n, from 1 to 16.
-    pub fn store(mut self, n: Number, p: Position) -> Axis
+    pub(crate) fn store(mut self, n: Number, p: Position) -> Axis
         ensures { λ r. ⌜ r ≡ storeAt n p self ⌝ }
     {
         let k = n.place();
@@ -40,7 +40,7 @@ impl Axis {
     }
 
     // All warnings cleared but FD and WR.
-    pub fn cleared(mut self) -> Axis
+    pub(crate) fn cleared(mut self) -> Axis
         ensures { λ r. ⌜ r ≡ clearedOf self ⌝ }
     {
         self.warnings = self.warnings % 2;

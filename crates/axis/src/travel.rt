@@ -12,7 +12,7 @@ use units::Reach;
 use units::Speed;
 
 // Is it a number from 1 to 16?
-pub fn is_place(n: Number) -> bool
+pub(crate) fn is_place(n: Number) -> bool
     ensures { λ r. ⌜ r ≡ isPlace n ⌝ }
 {
     let k = n.place();
@@ -57,7 +57,7 @@ impl Axis {
     }
 
     // Where a move would end, if the axis may make it.
-    pub fn aim(self, t: Target) -> Reach
+    pub(crate) fn aim(self, t: Target) -> Reach
         ensures { λ r. ⌜ r ≡ aimOf t self ⌝ }
     {
         if self.reference {
@@ -67,7 +67,7 @@ impl Axis {
         }
     }
 
-    pub fn may_move_to(self, t: Target) -> bool
+    pub(crate) fn may_move_to(self, t: Target) -> bool
         ensures { λ r. ⌜ r ≡ mayMoveTo t self ⌝ }
     {
         match self.aim(t) {
@@ -76,7 +76,7 @@ impl Axis {
         }
     }
 
-    pub fn may_run_at(self, v: Speed) -> bool
+    pub(crate) fn may_run_at(self, v: Speed) -> bool
         ensures { λ r. ⌜ r ≡ mayRunAt v self ⌝ }
     {
         v.within(self.settings.maxspeed)
@@ -88,7 +88,7 @@ impl Axis {
         p.within(self.settings.limit.min, self.settings.limit.max)
     }
 
-    pub fn may_store(self, n: Number, p: Position) -> bool
+    pub(crate) fn may_store(self, n: Number, p: Position) -> bool
         ensures { λ r. ⌜ r ≡ mayStore n p self ⌝ }
     {
         let a = is_place(n);

@@ -78,11 +78,11 @@ module _ (d : Device) (l b : List ℕ) where
     pub joined : {e : Device} → not (y .shows) ≡ false → e ≡ d → e ≡ next d k c
     joined h q = q ∙ sym (shows-same d k c (sym (ap (λ (x : Demands). x .shows) (w .fair .demanded)) ∙ not-false _ h))
 
-    module _ {f : Form} (p : f ≡ formOf c) {t : Told} (q : (length (d .axes) ≡ 4) × (t ≡ toldOf d k f (y .reply) from end)) where
+    module _ {f : Form} (p : f ≡ formOf c) {t : Told} (q : (t ≡ toldOf d k f (y .reply) from end) × (length (d .axes) ≡ 4)) where
       told-data : toldText l t ≡ dataOf d k (carriedBy c (drop from (take end l))) c
       unfolding carried
       told-data =
-          ap (toldText l) (q .1) ∙ told-text d k (q .0) l f (y .reply) from end
+          ap (toldText l) (q .0) ∙ told-text d k (q .1) l f (y .reply) from end
           ∙ rw (p, w .fair .demanded) (carried-same d k (drop from (take end l)) c)
 
       pub told-fits : length (toldText l t) ≤ 74

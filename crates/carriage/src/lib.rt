@@ -8,6 +8,7 @@ ghost use Rattle.reply.specs.Told.{toldText};
 ghost use Rattle.carriage.specs.Report.{report as reportOf};
 ghost use Rattle.carriage.specs.Step.{Replied, Gives, concerns as concernsOf, step as stepOf};
 ghost use Rattle.carriage.specs.Rulings.{foreign as foreignTo, heard, headingOf, ruleWords, rule as ruleOf};
+use crate::effects::next;
 use command::Command;
 use command::kinds::Demands;
 use device::Device;
@@ -25,7 +26,6 @@ use reply::put_end;
 use reply::put_head;
 use reply::told::Told;
 use reply::told::put_told;
-use rules::effects::next;
 use units::Number;
 
 // The answer to a line: the number, the reply's length, and the next record.
@@ -179,3 +179,5 @@ pub fn report(d: Device, axis: Number, kind: Number, last: Number) -> Outcome
 {
     rules::reports::report(d, axis, axis::reports::report_of(kind, last))
 }
+
+mod effects;

@@ -1,22 +1,24 @@
-// The axes that a number means: asked, their flags joined, changed.
+// The axes that a number means: how many, asked, their flags joined.
 // Axis 0 means all axes up to the count.
 ghost use mathlib.Core.Path.{_≡_};
 ghost use Rattle.laws.specs.Lists.{all, any};
 ghost use Rattle.flags.specs.Flags.{mask, union};
 ghost use Rattle.axis.specs.Record.{moving as movingOf};
-ghost use Rattle.axis.specs.Commands.{permits as permitsOf, axisAfter};
+ghost use Rattle.axis.specs.Commands.{permits as permitsOf};
 ghost use Rattle.axis.specs.Warnings.{active as activeOf};
 ghost use Rattle.device.specs.Each.{stretchOf};
-ghost use Rattle.device.specs.Record.{many as manyOf, axesOf, onAxes};
+ghost use Rattle.device.specs.Record.{many as manyOf, axesOf};
 use crate::Device;
 use crate::walks::Stretch;
 use command::AxisCommand;
 
 impl Device {
-    fn many(self, k: u64) -> u64
+    // How many axes k means.
+    pub fn many(self, k: u64) -> u64
         ensures { λ r. ⌜ r ≡ manyOf self k ⌝ }
     {
-        if k == 0 { self.count as u64 } else { 1 }
+        let count = self.count as u64;
+        if k == 0 { count } else { 1 }
     }
 
     // The axis places that k means; there are four.
@@ -48,15 +50,5 @@ impl Device {
     {
         let axes = self.axes;
         crate::walks::join_flags(axes, k, self.many(k))
-    }
-
-    // Every axis that k means after the command, and all other places as they are.
-    pub fn obeyed(mut self, k: u64, c: AxisCommand) -> Device
-        ensures { λ r. ⌜ r ≡ onAxes (axisAfter c) k self ⌝ }
-    {
-        let axes = self.axes;
-        let next = crate::walks::change_each(axes, k, self.many(k), c);
-        self.axes = next;
-        self
     }
 }

@@ -1,7 +1,7 @@
 // The device record, by value: its settings, four axis places, and the fresh record.
-// What commands and reports do to it is in the crate `rules`.
+// What commands and reports do to it is in the crates `rules` and `carriage`.
 ghost use mathlib.Core.Path.{_≡_};
-ghost use Rattle.device.specs.Record.{value as valueOf, put as putOf, freshComm, fresh as freshOf};
+ghost use Rattle.device.specs.Record.{value as valueOf, freshComm, fresh as freshOf};
 use axis::Axis;
 use command::DeviceSetting;
 use units::Number;
@@ -55,33 +55,6 @@ impl Device {
             DeviceSetting::DeviceId => self.id,
             DeviceSetting::SystemAxisCount => count,
         }
-    }
-
-    // The device with one of its settings set to n; what is read only stays.
-    pub fn put(mut self, s: DeviceSetting, n: Number) -> Device
-        ensures { λ r. ⌜ r ≡ putOf s n self ⌝ }
-    {
-        let mut comm = self.comm;
-        match s {
-            DeviceSetting::CommAddress => {
-                comm.address = n;
-                self.comm = comm;
-            }
-            DeviceSetting::CommAlert => {
-                comm.alert = n;
-                self.comm = comm;
-            }
-            DeviceSetting::CommChecksum => {
-                comm.checksum = n;
-                self.comm = comm;
-            }
-            DeviceSetting::SystemAccess => {
-                self.access = n;
-            }
-            DeviceSetting::DeviceId => {}
-            DeviceSetting::SystemAxisCount => {}
-        }
-        self
     }
 
     fn new(address: Number, count: u8, id: Number) -> Device

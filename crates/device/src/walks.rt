@@ -28,7 +28,7 @@ fn before(k: u64) -> u64
 }
 
 // The n places from the number k on, of the four that there are.
-pub fn stretch_of(k: u64, n: u64) -> Stretch
+pub(crate) fn stretch_of(k: u64, n: u64) -> Stretch
     ensures { λ r. ⌜ r ≡ stretchOf n k ⌝ }
 {
     let from = lesser(before(k) as usize, 4);
@@ -47,7 +47,7 @@ fn covers(p: Stretch, i: usize) -> bool
 }
 
 // Is every axis good, of the first n?
-pub fn all_good(axes: [Axis; 4], n: u64) -> bool
+pub(crate) fn all_good(axes: [Axis; 4], n: u64) -> bool
     ensures { λ r. ⌜ r ≡ all goodAxis (take n axes) ⌝ }
 {
     let many = lesser(n as usize, 4);
@@ -84,7 +84,7 @@ fn join_at(p: Stretch, i: usize, a: Axis, w: u32) -> u32
 }
 
 // Does some of these axes move? Each place is named, so that no axis is copied to be looked at.
-pub fn any_moving(axes: [Axis; 4], k: u64, n: u64) -> bool
+pub(crate) fn any_moving(axes: [Axis; 4], k: u64, n: u64) -> bool
     ensures { λ r. ⌜ r ≡ any movingOf (take n (drop (k - 1) axes)) ⌝ }
 {
     let p = stretch_of(k, n);
@@ -107,7 +107,7 @@ fn asked_at(p: Stretch, i: usize, a: Axis, c: AxisCommand) -> bool
 }
 
 // Does each of these axes permit the command's values?
-pub fn ask_each(axes: [Axis; 4], k: u64, n: u64, c: AxisCommand) -> bool
+pub(crate) fn ask_each(axes: [Axis; 4], k: u64, n: u64, c: AxisCommand) -> bool
     ensures { λ r. ⌜ r ≡ all (permitsOf c) (take n (drop (k - 1) axes)) ⌝ }
 {
     let p = stretch_of(k, n);
@@ -119,7 +119,7 @@ pub fn ask_each(axes: [Axis; 4], k: u64, n: u64, c: AxisCommand) -> bool
 }
 
 // The flags that are active on some of these axes, FD to WR, as a mask.
-pub fn join_flags(axes: [Axis; 4], k: u64, n: u64) -> u32
+pub(crate) fn join_flags(axes: [Axis; 4], k: u64, n: u64) -> u32
     ensures { λ r. ⌜ r ≡ mask (union activeOf (take n (drop (k - 1) axes))) ⌝ }
 {
     let p = stretch_of(k, n);

@@ -123,7 +123,7 @@ fn read_body(b: &[u8]) -> Frame
 }
 
 // The frame of a line.
-pub fn read_frame(s: &[u8]) -> Frame
+pub(crate) fn read_frame(s: &[u8]) -> Frame
     ensures { λ r. ⌜ r ≡ frameOf (now (s .entry)) ⌝ }
 {
     if LONGEST_LINE < s.len() {

@@ -76,7 +76,7 @@ fn starts_hex(w: &[u8], from: usize) -> bool
 }
 
 // `0x` and hex digits, or decimal digits, from a place on.
-pub fn unsigned(w: &[u8], from: usize, most: u32) -> UnsignedRead
+pub(crate) fn unsigned(w: &[u8], from: usize, most: u32) -> UnsignedRead
     ensures { λ r. ⌜ r ≡ unsignedFrom most from (drop from (now (w .entry))) ⌝ }
 {
     if starts_hex(w, from) {

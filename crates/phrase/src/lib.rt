@@ -66,7 +66,7 @@ impl Numbered {
     }
 
     // The row with its number, or 11 where it is none.
-    pub fn made(self, n: NumberRead) -> WordsRead
+    pub(crate) fn made(self, n: NumberRead) -> WordsRead
         ensures { λ r. ⌜ r ≡ made self n ⌝ }
     {
         match n {

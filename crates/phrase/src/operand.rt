@@ -18,7 +18,7 @@ use words::Word;
 use words::same_bytes;
 
 // The command c, where no word is left.
-pub fn ended_at(s: &[u8], at: usize, c: Command) -> WordsRead
+pub(crate) fn ended_at(s: &[u8], at: usize, c: Command) -> WordsRead
     ensures { λ r. ⌜ r ≡ ended c (cut (drop at (now (s .entry)))) ⌝ }
 {
     if words::start_of(s, at) < s.len() {
@@ -29,7 +29,7 @@ pub fn ended_at(s: &[u8], at: usize, c: Command) -> WordsRead
 }
 
 // The row k, where one word is left and is its number.
-pub fn one_number(s: &[u8], at: usize, k: Numbered) -> WordsRead
+pub(crate) fn one_number(s: &[u8], at: usize, k: Numbered) -> WordsRead
     ensures { λ r. ⌜ r ≡ oneNumber k (cut (drop at (now (s .entry)))) ⌝ }
 {
     let Word { start, end } = words::word_at(s, at);
@@ -65,7 +65,7 @@ fn read_device_setting(w: &[u8]) -> SettingRead
 }
 
 // The setting that a word names.
-pub fn read_setting(w: &[u8]) -> SettingRead
+pub(crate) fn read_setting(w: &[u8]) -> SettingRead
     ensures { λ r. ⌜ r ≡ readSetting (now (w .entry)) ⌝ }
 {
     if same_bytes(w, b"pos") {

@@ -91,7 +91,7 @@ fn tool_of(s: &[u8], at: usize, w: &[u8]) -> WordsRead
 }
 
 // The words behind `tools`.
-pub fn read_tools(s: &[u8], at: usize) -> WordsRead
+pub(crate) fn read_tools(s: &[u8], at: usize) -> WordsRead
     ensures { λ r. ⌜ r ≡ readTools (pastOf (now (s .entry)) at) (cut (drop at (now (s .entry)))) ⌝ }
 {
     let Word { start, end } = words::word_at(s, at);

@@ -48,7 +48,7 @@ fn move_of(s: &[u8], at: usize, w: &[u8]) -> WordsRead
 }
 
 // The words behind `move`.
-pub fn read_move(s: &[u8], at: usize) -> WordsRead
+pub(crate) fn read_move(s: &[u8], at: usize) -> WordsRead
     ensures { λ r. ⌜ r ≡ readMove (cut (drop at (now (s .entry)))) ⌝ }
 {
     let Word { start, end } = words::word_at(s, at);
@@ -76,7 +76,7 @@ fn get_of(s: &[u8], at: usize, x: SettingRead) -> WordsRead
 }
 
 // The words behind `get`.
-pub fn read_get(s: &[u8], at: usize) -> WordsRead
+pub(crate) fn read_get(s: &[u8], at: usize) -> WordsRead
     ensures { λ r. ⌜ r ≡ readGet (cut (drop at (now (s .entry)))) ⌝ }
 {
     let Word { start, end } = words::word_at(s, at);
@@ -99,7 +99,7 @@ fn set_of(s: &[u8], at: usize, x: SettingRead) -> WordsRead
 }
 
 // The words behind `set`.
-pub fn read_set(s: &[u8], at: usize) -> WordsRead
+pub(crate) fn read_set(s: &[u8], at: usize) -> WordsRead
     ensures { λ r. ⌜ r ≡ readSet (cut (drop at (now (s .entry)))) ⌝ }
 {
     let Word { start, end } = words::word_at(s, at);

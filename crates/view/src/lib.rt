@@ -48,7 +48,7 @@ fn value_of(a: Axis, v: Value) -> Number
 }
 
 // The values of the axes that k means.
-pub fn listed(d: Device, k: u64, v: Value) -> Listed
+pub(crate) fn listed(d: Device, k: u64, v: Value) -> Listed
     ensures { λ r. ⌜ r ≡ listedFor v d k ⌝ }
 {
     let axes = d.axes;

@@ -8,7 +8,7 @@ use Rattle.device.proofs.Device.many.Tie as tie
 
 returns : tie.Need-returns
 unfolding many
-returns c = simp (eq-eqb _ _ (c .before .if1 .taken))
+returns c = simp (eq-eqb _ _ (c .if1 .taken))
 
 returns-2 : tie.Need-returns-2
 unfolding many

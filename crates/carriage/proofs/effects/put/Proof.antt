@@ -1,8 +1,8 @@
 -- Each arm gives its row of the table.
 -- Assumes nothing.
 use borrow.Author.Needs.{needs}
-use Rattle.device.proofs.Device.put.Statement.{statement}
-use Rattle.device.proofs.Device.put.Tie as tie
+use Rattle.carriage.proofs.effects.put.Statement.{statement}
+use Rattle.carriage.proofs.effects.put.Tie as tie
 
 returns : tie.Need-returns
 returns c = simp (c .enum-told .given .1)

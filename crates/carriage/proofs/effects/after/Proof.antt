@@ -1,8 +1,8 @@
 -- Each arm gives its row of the table.
 -- Assumes nothing.
 use borrow.Author.Needs.{needs}
-use Rattle.rules.proofs.effects.after.Statement.{statement}
-use Rattle.rules.proofs.effects.after.Tie as tie
+use Rattle.carriage.proofs.effects.after.Statement.{statement}
+use Rattle.carriage.proofs.effects.after.Tie as tie
 
 returns : tie.Need-returns
 returns c = search needs

@@ -1,9 +1,9 @@
 -- The axes, or the device.
 -- Assumes nothing.
 use Rattle.rules.specs.Effects.{next}
 use borrow.Author.Needs.{needs}
-use Rattle.rules.proofs.effects.next.Statement.{statement}
-use Rattle.rules.proofs.effects.next.Tie as tie
+use Rattle.carriage.proofs.effects.next.Statement.{statement}
+use Rattle.carriage.proofs.effects.next.Tie as tie
 
 returns : tie.Need-returns
 unfolding next

@@ -1,9 +1,9 @@
 -- The walk over the places of the axes that the number means.
 -- Assumes nothing.
 use Rattle.device.specs.Record.{onAxes}
 use borrow.Author.Needs.{needs}
-use Rattle.device.proofs.Device.obeyed.Statement.{statement}
-use Rattle.device.proofs.Device.obeyed.Tie as tie
+use Rattle.carriage.proofs.effects.obeyed.Statement.{statement}
+use Rattle.carriage.proofs.effects.obeyed.Tie as tie
 
 returns : tie.Need-returns
 unfolding onAxes
