@@ -1,2 +1,5 @@
+pub mod Arms
 pub mod Demands
 pub mod FormMakes
+pub mod Rules
+pub mod Sums

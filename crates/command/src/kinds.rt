@@ -1,7 +1,7 @@
 // What is constant of a command: document 01's table of commands as data, one row a kind, looked up and not matched.
 // specs/Commands.antt has the same table, with the words of each row.
 ghost use mathlib.Core.Path.{_≡_};
-ghost use Rattle.command.specs.Commands.{kindAt, demandsBy, demandsOf, isWords};
+ghost use Rattle.command.specs.Commands.{useOf, dataOf, kindOf, kindAt, demandsBy, demandsOf, isWords};
 use crate::Command;
 use crate::Setting;
 use crate::forms::Form;
@@ -31,12 +31,12 @@ impl Data {
         ensures { λ r. ⌜ r ≡ isWords self ⌝ }
     {
         match self {
-            Data::Nought => false,
-            Data::Values => false,
-            Data::Stored => false,
-            Data::Position => false,
-            Data::Active => false,
-            Data::Parked => false,
+            Data::Nought
+            | Data::Values
+            | Data::Stored
+            | Data::Position
+            | Data::Active
+            | Data::Parked => false,
             Data::Words => true,
         }
     }
@@ -62,182 +62,133 @@ pub struct Demands {
     pub reply: Data,
 }
 
-const KINDS: [Kind; 21] = [
+// What is said of a row, as numbers to add: the first six are the data of its reply.
+const VALUES: u8 = 1;
+
+const STORED: u8 = 2;
+
+const POSITION: u8 = 3;
+
+const ACTIVE: u8 = 4;
+
+const PARKED: u8 = 5;
+
+const WORDS: u8 = 6;
+
+const SHOWS: u8 = 8;
+
+const REST: u8 = 16;
+
+const UNPARKED: u8 = 32;
+
+const GETS: u8 = 64;
+
+const SETS: u8 = 128;
+
+// Nothing of all this.
+const PLAIN: u8 = 0;
+
+// A byte a row: the proof of a function that reads a table of structs grows with each of their fields.
+const KINDS: [u8; 21] = [
     // (none)
-    Kind {
-        uses: Use::Apart,
-        unparked: false,
-        rest: false,
-        shows: true,
-        reply: Data::Nought,
-    },
+    SHOWS,
     // home
-    Kind {
-        uses: Use::Apart,
-        unparked: true,
-        rest: false,
-        shows: false,
-        reply: Data::Nought,
-    },
+    UNPARKED,
     // stop
-    Kind {
-        uses: Use::Apart,
-        unparked: true,
-        rest: false,
-        shows: false,
-        reply: Data::Nought,
-    },
+    UNPARKED,
     // estop
-    Kind {
-        uses: Use::Apart,
-        unparked: true,
-        rest: false,
-        shows: false,
-        reply: Data::Nought,
-    },
+    UNPARKED,
     // move abs N
-    Kind {
-        uses: Use::Apart,
-        unparked: true,
-        rest: false,
-        shows: false,
-        reply: Data::Nought,
-    },
+    UNPARKED,
     // move rel N
-    Kind {
-        uses: Use::Apart,
-        unparked: true,
-        rest: false,
-        shows: false,
-        reply: Data::Nought,
-    },
+    UNPARKED,
     // move vel N
-    Kind {
-        uses: Use::Apart,
-        unparked: true,
-        rest: false,
-        shows: false,
-        reply: Data::Nought,
-    },
+    UNPARKED,
     // move min
-    Kind {
-        uses: Use::Apart,
-        unparked: true,
-        rest: false,
-        shows: false,
-        reply: Data::Nought,
-    },
+    UNPARKED,
     // move max
-    Kind {
-        uses: Use::Apart,
-        unparked: true,
-        rest: false,
-        shows: false,
-        reply: Data::Nought,
-    },
+    UNPARKED,
     // move stored N
-    Kind {
-        uses: Use::Apart,
-        unparked: true,
-        rest: false,
-        shows: false,
-        reply: Data::Nought,
-    },
+    UNPARKED,
     // get SETTING
-    Kind {
-        uses: Use::Gets,
-        unparked: false,
-        rest: false,
-        shows: true,
-        reply: Data::Values,
-    },
+    GETS + SHOWS + VALUES,
     // set SETTING N
-    Kind {
-        uses: Use::Sets,
-        unparked: false,
-        rest: false,
-        shows: false,
-        reply: Data::Nought,
-    },
+    SETS,
     // tools storepos N
-    Kind {
-        uses: Use::Apart,
-        unparked: false,
-        rest: false,
-        shows: false,
-        reply: Data::Stored,
-    },
+    STORED,
     // tools storepos N P
-    Kind {
-        uses: Use::Apart,
-        unparked: false,
-        rest: false,
-        shows: false,
-        reply: Data::Nought,
-    },
+    PLAIN,
     // tools storepos N current
-    Kind {
-        uses: Use::Apart,
-        unparked: false,
-        rest: false,
-        shows: false,
-        reply: Data::Position,
-    },
+    POSITION,
     // warnings
-    Kind {
-        uses: Use::Apart,
-        unparked: false,
-        rest: false,
-        shows: true,
-        reply: Data::Active,
-    },
+    SHOWS + ACTIVE,
     // warnings clear
-    Kind {
-        uses: Use::Apart,
-        unparked: false,
-        rest: false,
-        shows: false,
-        reply: Data::Active,
-    },
+    ACTIVE,
     // tools parking state
-    Kind {
-        uses: Use::Apart,
-        unparked: false,
-        rest: false,
-        shows: true,
-        reply: Data::Parked,
-    },
+    SHOWS + PARKED,
     // tools parking park
-    Kind {
-        uses: Use::Apart,
-        unparked: false,
-        rest: true,
-        shows: false,
-        reply: Data::Nought,
-    },
+    REST,
     // tools parking unpark
-    Kind {
-        uses: Use::Apart,
-        unparked: false,
-        rest: false,
-        shows: false,
-        reply: Data::Nought,
-    },
+    PLAIN,
     // tools echo WORDS
-    Kind {
-        uses: Use::Apart,
-        unparked: false,
-        rest: false,
-        shows: true,
-        reply: Data::Words,
-    },
+    SHOWS + WORDS,
 ];
 
-// The row at a place; beyond the table the first.
+impl Use {
+    fn of(k: u8) -> Use
+        ensures { λ r. ⌜ r ≡ useOf k ⌝ }
+    {
+        match k {
+            0 => Use::Apart,
+            1 => Use::Gets,
+            _ => Use::Sets,
+        }
+    }
+}
+
+impl Data {
+    fn of(k: u8) -> Data
+        ensures { λ r. ⌜ r ≡ dataOf k ⌝ }
+    {
+        match k {
+            0 => Data::Nought,
+            1 => Data::Values,
+            2 => Data::Stored,
+            3 => Data::Position,
+            4 => Data::Active,
+            5 => Data::Parked,
+            _ => Data::Words,
+        }
+    }
+}
+
+impl Kind {
+    fn of(sum: u8) -> Kind
+        ensures { λ r. ⌜ r ≡ kindOf sum ⌝ }
+    {
+        let uses = Use::of(sum / 64);
+        let reply = Data::of(sum % 8);
+        Kind {
+            uses,
+            unparked: sum / 32 % 2 == 1,
+            rest: sum / 16 % 2 == 1,
+            shows: sum / 8 % 2 == 1,
+            reply,
+        }
+    }
+}
+
+// The number of the row at a place; beyond the table that of the first.
+fn sum_at(row: usize) -> u8
+    ensures { λ r. ⌜ kindOf r ≡ kindAt row ⌝ }
+{
+    if row < 21 { KINDS[row] } else { SHOWS }
+}
+
 fn kind_at(row: usize) -> Kind
     ensures { λ r. ⌜ r ≡ kindAt row ⌝ }
 {
-    if row < 21 { KINDS[row] } else { KINDS[0] }
+    Kind::of(sum_at(row))
 }
 
 impl Kind {

@@ -1,0 +1,33 @@
+-- Each arm has the rule of the settings that it names.
+-- Assumes nothing.
+use mathlib.Core.Path.{refl}
+use mathlib.Core.List.{[], _∷_}
+use Rattle.command.specs.Settings.{aboutAxis, ruleOf}
+use Rattle.command.proofs.Arms.{axis-arm}
+use borrow.Author.Needs.{needs}
+use Rattle.command.proofs.AxisSetting.rule.Statement.{statement}
+use Rattle.command.proofs.AxisSetting.rule.Tie as tie
+
+returns : tie.Need-returns
+returns c = axis-arm (λ s. ruleOf (aboutAxis s)) _ (0 ∷ 1 ∷ 2 ∷ []) (c .before .args .self) (c .match .keys1) refl
+
+returns-2 : tie.Need-returns-2
+returns-2 c = axis-arm (λ s. ruleOf (aboutAxis s)) _ (3 ∷ 4 ∷ []) (c .before .args .self) (c .match .keys2) refl
+
+returns-3 : tie.Need-returns-3
+returns-3 c = simp (c .enum-told .given .1)
+
+returns-4 : tie.Need-returns-4
+returns-4 c = axis-arm (λ s. ruleOf (aboutAxis s)) _ (6 ∷ 7 ∷ []) (c .before .args .self) (c .match .keys4) refl
+
+returns-5 : tie.Need-returns-5
+returns-5 c = simp (c .enum-told2 .given .1)
+
+returns-6 : tie.Need-returns-6
+returns-6 c = simp (c .enum-told3 .given .1)
+
+pub rule-spec : {M : Type 1} → statement M
+rule-spec =
+    tie.close
+    (tie.spec (λ c. search needs) (λ c. search needs) (λ c. search needs) (λ c. search needs) (λ c. search needs) returns returns-2
+    returns-3 returns-4 returns-5 returns-6)
