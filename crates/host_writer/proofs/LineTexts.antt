@@ -1,9 +1,9 @@
 -- A whole line: its content piece by piece, its end behind it, and the answers of `write_command`.
 -- Assumes nothing.
-use mathlib.Core.Path.{_≡_, refl, sym, _∙_}
+use mathlib.Core.Path.{_≡_, refl, sym, ap, _∙_}
 use mathlib.Core.Logic.{⊎-elim}
 use mathlib.Core.Bool.{Bool, true, false}
-use mathlib.Core.List.{List, [], _∷_, _++_, append-assoc}
+use mathlib.Core.List.{List, [], _∷_, _++_, append-nil, append-assoc}
 use Prim.Native.Nat.{ℕ, _+_, _-_, _≤_, _<_}
 use native.Mathlib.Nat.{zero-add}
 use native.Mathlib.Omega.{arith}
@@ -12,6 +12,7 @@ use lib.Seq.{take-append-le}
 use borrow.Author.Tests.{lt-ltb, le-ltb}
 use Rattle.laws.specs.Text.{space, text, spaced}
 use Rattle.laws.specs.Refusals.{firstOf}
+use Rattle.laws.proofs.Answers.{one-answer}
 use Rattle.laws.proofs.Order.{lt-or-le}
 use Rattle.laws.proofs.Spaced.{trail, spaced-trail}
 use Rattle.numbers.specs.Decimal.{digits, twoDigits}
@@ -20,7 +21,8 @@ use Rattle.command.specs.declared.Command.{Command}
 use Rattle.command.specs.Commands.{commandWords}
 use Rattle.buffer.specs.Wrote.{Wrote}
 use Rattle.buffer.proofs.Wrote.{_▸_, wrote-room, wrote-read}
-use Rattle.host_writer.specs.Writing.{lineWords, lineEnd, lineText, unspellable, writerRefusal, outcome, writeLine}
+use Rattle.host_writer.specs.Writing.{lineWords, frontText, lineEnd, lineText, unspellable, writerRefusal, Outcome, outcome, writeLine}
+use Rattle.host_writer.specs.declared.Written.{Written}
 
 -- what is left of a write where the buffer is full before its end
 full : {b : List ℕ} (p q t : List ℕ) {c : List ℕ} {r : ℕ} → length b ≤ length p → Wrote b 0 (p ++ q) c r → Wrote b 0 (p ++ t) c r
@@ -33,14 +35,17 @@ full {b} p q t h w =
       place = w .place ∙ rw same;
     }
 
+pub front-is : (address axis : ℕ) → text "/" ++ twoDigits address ++ (space ∷ []) ++ digits axis ≡ frontText address axis
+unfolding frontText spaced
+front-is address axis = simp append-assoc
+
 module _ (address axis : ℕ) (c : Command) (message : List ℕ) where
   abbrev content : List ℕ
   content = spaced (lineWords address axis c message)
 
-  pub content-is : text "/" ++ twoDigits address ++ (space ∷ []) ++ digits axis ++ trail (commandWords c (cut message)) ≡ text "/"
-      ++ content
-  unfolding lineWords trail
-  content-is = rw spaced-trail (simp append-assoc)
+  pub content-is : frontText address axis ++ trail (commandWords c (cut message)) ≡ text "/" ++ content
+  unfolding frontText lineWords trail
+  content-is = rw (spaced-trail, spaced-trail) (simp (append-assoc, append-nil))
 
   behind-slash : drop 1 (text "/" ++ content) ≡ content
   unfolding text
@@ -89,3 +94,7 @@ module _ (address axis : ℕ) (c : Command) (message : List ℕ) where
               let put : Wrote b 0 t d r = rw line at v in
               let k = wrote-room put (omega arith) in
               rw (le-ltb (length b) 80 room, good, le-ltb 80 (length t) short, k .0, k .1, zero-add)
+
+-- the promise of the writer leaves no choice
+pub outcome-one : {x : Outcome} {r q : Written} {b c : List ℕ} → outcome r b ≡ x → outcome q c ≡ x → (r ≡ q) × (b ≡ c)
+outcome-one p q = let same = one-answer p q in (ap (λ (o : Outcome). o .answer) same, ap (λ (o : Outcome). o .buffer) same)

@@ -22,6 +22,10 @@ use Rattle.host_writer.specs.declared.Written.{Written}
 unfoldable pub lineWords : ℕ → ℕ → Command → List ℕ → List (List ℕ)
 lineWords address axis c message = twoDigits address ∷ digits axis ∷ commandWords c (cut message)
 
+-- what stands before the command's words
+unfoldable pub frontText : ℕ → ℕ → List ℕ
+frontText address axis = text "/" ++ spaced (twoDigits address ∷ digits axis ∷ [])
+
 -- the checksum of the content s, if asked, and LF
 unfoldable pub lineEnd : Bool → List ℕ → List ℕ
 lineEnd sum s = sumText sum s ++ text "\n"

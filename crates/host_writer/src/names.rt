@@ -5,7 +5,7 @@ ghost use mathlib.Core.List.{_∷_};
 ghost use Rattle.laws.specs.Text.{space};
 ghost use Rattle.laws.proofs.Spaced.{trail};
 ghost use Rattle.words.specs.Cutting.{cut};
-ghost use Rattle.command.specs.Settings.{aboutAxis, aboutDevice, about, nameOf};
+ghost use Rattle.command.specs.Settings.{about, nameOf};
 ghost use Rattle.buffer.specs.Wrote.{Wrote};
 ghost use Rattle.host_writer.specs.Names.{nameAt};
 use buffer::put_byte;
@@ -13,45 +13,32 @@ use buffer::put_text;
 use command::AxisSetting;
 use command::DeviceSetting;
 use command::Setting;
-use words::Next;
 
 // The place of a setting's name among all names.
-fn axis_place(s: AxisSetting) -> usize
-    ensures { λ r. ⌜ nameAt r ≡ aboutAxis s .name ⌝ }
-{
-    match s {
-        AxisSetting::Pos => 0,
-        AxisSetting::LimitMin => 1,
-        AxisSetting::LimitMax => 2,
-        AxisSetting::MaxSpeed => 3,
-        AxisSetting::Accel => 4,
-        AxisSetting::DriverCurrentMax => 5,
-        AxisSetting::DriverCurrentRun => 6,
-        AxisSetting::DriverCurrentHold => 7,
-        AxisSetting::DriverDir => 8,
-        AxisSetting::EncoderIndexCount => 9,
-    }
-}
-
-fn device_place(s: DeviceSetting) -> usize
-    ensures { λ r. ⌜ nameAt r ≡ aboutDevice s .name ⌝ }
-{
-    match s {
-        DeviceSetting::CommAddress => 10,
-        DeviceSetting::CommAlert => 11,
-        DeviceSetting::CommChecksum => 12,
-        DeviceSetting::SystemAccess => 13,
-        DeviceSetting::DeviceId => 14,
-        DeviceSetting::SystemAxisCount => 15,
-    }
-}
-
 fn place_of(s: Setting) -> usize
     ensures { λ r. ⌜ nameAt r ≡ about s .name ⌝ }
 {
     match s {
-        Setting::OfAxis(a) => axis_place(a),
-        Setting::OfDevice(d) => device_place(d),
+        Setting::OfAxis(a) => match a {
+            AxisSetting::Pos => 0,
+            AxisSetting::LimitMin => 1,
+            AxisSetting::LimitMax => 2,
+            AxisSetting::MaxSpeed => 3,
+            AxisSetting::Accel => 4,
+            AxisSetting::DriverCurrentMax => 5,
+            AxisSetting::DriverCurrentRun => 6,
+            AxisSetting::DriverCurrentHold => 7,
+            AxisSetting::DriverDir => 8,
+            AxisSetting::EncoderIndexCount => 9,
+        },
+        Setting::OfDevice(d) => match d {
+            DeviceSetting::CommAddress => 10,
+            DeviceSetting::CommAlert => 11,
+            DeviceSetting::CommChecksum => 12,
+            DeviceSetting::SystemAccess => 13,
+            DeviceSetting::DeviceId => 14,
+            DeviceSetting::SystemAxisCount => 15,
+        },
     }
 }
 
@@ -81,15 +68,12 @@ pub fn put_message(buf: &mut [u8], at: usize, message: &[u8]) -> usize
     let mut next = at;
     let mut place: usize = 0;
     while place < message.len() {
-        match words::next_word(message, place) {
-            Next::End => {
-                return next;
-            }
-            Next::Word { start, end } => {
-                next = put_word(buf, next, &message[start..end]);
-                place = end;
-            }
+        let w = words::first_word(message, place);
+        if w.len() == 0 {
+            return next;
         }
+        next = put_word(buf, next, w);
+        place = words::past_word(message, place);
     }
     next
 }

@@ -1,8 +1,6 @@
 // The host's command writer: a command's line into a lent buffer, or a refusal that writes nothing.
 // The rules are in specs/Writing.antt; roundtrip/proofs/ReadsBack.antt shows that the device reads the line as the same command.
 ghost use mathlib.Core.Path.{_≡_};
-ghost use Rattle.laws.specs.Lists.{all};
-ghost use Rattle.host_reader.specs.Reading.{dataByte};
 ghost use Rattle.host_writer.specs.Writing.{unfit, unspellable, outcome, writeLine};
 use crate::Written;
 use crate::lines::put_line;
@@ -18,26 +16,13 @@ use numbers::HIGHEST_ADDRESS;
 // The highest address, as wide as addresses are here.
 const HIGHEST: u64 = HIGHEST_ADDRESS as u64;
 
-// Has every byte of s a place in a message?
-fn is_plain(s: &[u8]) -> bool
-    ensures { λ r. ⌜ r ≡ all dataByte (now (s .entry)) ⌝ }
-{
-    let mut plain = true;
-    let mut i: usize = 0;
-    while i < s.len() {
-        plain = plain & host_reader::data_byte(s[i]);
-        i += 1;
-    }
-    plain
-}
-
 fn is_unfit(c: Command, message: &[u8]) -> bool
     ensures { λ r. ⌜ r ≡ unfit c (now (message .entry)) ⌝ }
 {
     let d = c.form().demands();
     let reply = d.reply;
     let words = reply.words();
-    let plain = is_plain(message);
+    let plain = host_reader::all_data(message);
     d.barred | (words & !plain)
 }
 

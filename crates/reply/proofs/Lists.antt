@@ -1,46 +1,45 @@
 -- The loops of `put_listed`, `put_warnings` and `put_echo`: which words are left at each turn.
 -- Assumes nothing.
-use mathlib.Core.Path.{_≡_}
+use mathlib.Core.Path.{_≡_, refl}
 use mathlib.Core.Bool.{cond}
-use mathlib.Core.List.{List, [], _∷_, _++_, map}
+use mathlib.Core.List.{List, [], _∷_, _++_, map, map-append, append-nil, append-assoc}
 use Prim.Native.Nat.{ℕ, zero, suc, _+_, _-_, _/_, _%_, _≤_, _<_}
 use native.Mathlib.Omega.{arith}
 use native.Mathlib.Numerals.{add-one}
 use lib.Dec.{eqb}
 use lib.ListN.{length, getD, take, drop, drop-of-length-le}
 use lib.Seq.{drop-cons, take-all}
+use borrow.Author.Tests.{eq-eqb, ne-eqb}
 use Rattle.laws.specs.Text.{space, text, spaced}
-use Rattle.laws.proofs.Spaced.{trail, spaced-trail}
+use Rattle.laws.proofs.Spaced.{trail, spaced-trail, trail-append}
 use Rattle.units.specs.declared.Number.{Number}
 use Rattle.numbers.specs.Decimal.{decimal, twoDigits}
 use Rattle.flags.specs.Flags.{bits, named, count, warningNames}
 use Rattle.flags.proofs.Names.{warnings-number}
 use Rattle.buffer.specs.Wrote.{Wrote}
 use Rattle.reply.specs.Data.{values, warningsIn, warningList, echoed}
-use Rattle.reply.specs.Pieces.{warningAt, nameIf}
-use Rattle.reply.proofs.Writing.{Writing, writing-if, writing-more}
+use Rattle.reply.specs.Pieces.{warningAt}
+use Rattle.reply.proofs.Writing.{Writing, writing-more}
 
 -- ---- values
 unfoldable pub decimals : List Number → List (List ℕ)
 decimals ns = map (λ n. decimal (n .0)) ns
 
-module _ (ns : List Number) where
-  pub values-none : length ns ≡ 0 → values ns ≡ []
-  unfolding values spaced
-  values-none h = rw (drop-of-length-le ns {i = 0} (omega arith))
+-- one value more, the first or behind a space
+pub values-first : (ns : List Number) (x : Number) → length ns ≡ 0 → values ns ++ decimal (x .0) ≡ values (ns ++ (x ∷ []))
+unfolding values spaced
+values-first [] x h = refl
+values-first (n ∷ ns) x h = absurd (omega arith)
 
-  pub values-some : (d : Number) → 0 < length ns → values ns ≡ decimal (getD ns 0 d .0) ++ trail (decimals (drop 1 ns))
-  unfolding values decimals
-  values-some d h = rw (drop-cons ns 0 d h) (spaced-trail _ _)
-
-  module _ (i : ℕ) where
-    pub values-more : (d : Number) → i < length ns → decimals (drop i ns) ≡ decimal (getD ns i d .0) ∷ decimals (drop (i + 1) ns)
-    unfolding decimals
-    values-more d h = rw (drop-cons ns i d h, add-one)
-
-    pub values-end : length ns ≤ i → decimals (drop i ns) ≡ []
-    unfolding decimals
-    values-end h = rw (drop-of-length-le ns h)
+pub values-next : (ns : List Number) (x : Number) → 0 < length ns
+    → values ns ++ (space ∷ []) ++ decimal (x .0) ≡ values (ns ++ (x ∷ []))
+unfolding values trail
+values-next [] x h = absurd (omega arith)
+values-next (n ∷ ns) x h =
+    let w = decimal (n .0) in
+    let ws = map (λ (n : Number). decimal (n .0)) ns in
+    let v = decimal (x .0) in
+    rw (spaced-trail w ws, map-append, spaced-trail w (ws ++ (v ∷ [])), trail-append) (simp (append-assoc, append-nil))
 
 -- ---- the list of warnings
 pub list-split : (m : ℕ) → warningList m ≡ twoDigits (count (bits 8 m)) ++ trail (named (bits 8 m) warningNames)
@@ -60,12 +59,16 @@ module _ (left i : ℕ) where
   unfolding bits named
   names-end h = let e : 8 - i ≡ 0 = omega arith in rw e
 
-  pub names-turn : i < 8 → {b : List ℕ} {at : ℕ} {whole c d : List ℕ} {r q : ℕ}
-      → Writing b at whole (named (bits (8 - i) left) (drop i warningNames)) c r
-      → Wrote c r (nameIf (eqb (left % 2) 1) i) d q
-      → Writing b at whole (named (bits (8 - (i + 1)) (left / 2)) (drop (i + 1) warningNames)) d q
-  unfolding nameIf
-  names-turn h p v = writing-if (eqb (left % 2) 1) (warningAt i) (rw (names-more h) at p) v
+  -- a turn: the name behind a space where its bit is 1, and nothing where it is not
+  module _ (h : i < 8) {b : List ℕ} {at : ℕ} {whole c d : List ℕ} {r q : ℕ}
+      (p : Writing b at whole (named (bits (8 - i) left) (drop i warningNames)) c r) where
+    pub names-yes : left % 2 ≡ 1 → {e : List ℕ} {n : ℕ} → Wrote c r (space ∷ warningAt i) e n → d ≡ e → q ≡ n
+        → Writing b at whole (named (bits (8 - (i + 1)) (left / 2)) (drop (i + 1) warningNames)) d q
+    names-yes t v x y = rw (x, y) (writing-more (rw (names-more h, eq-eqb (left % 2) 1 t) at p) v)
+
+    pub names-no : (left % 2 ≡ 1 → ⊥) → d ≡ c → q ≡ r
+        → Writing b at whole (named (bits (8 - (i + 1)) (left / 2)) (drop (i + 1) warningNames)) d q
+    names-no t x y = rw (x, y) (rw (names-more h, ne-eqb (left % 2) 1 t) at p)
 
 -- ---- the words of an echo: ws are those that are left
 pub echo-none : (ws : List (List ℕ)) → ws ≡ [] → echoed ws ≡ text "0"

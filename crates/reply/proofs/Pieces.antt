@@ -1,16 +1,15 @@
 -- The texts of the inner writers, case by case.
 -- Assumes nothing.
 use mathlib.Core.Path.{_≡_}
-use mathlib.Core.List.{[], _∷_, _++_}
+use mathlib.Core.List.{[]}
 use Prim.Native.Nat.{ℕ, zero, suc, _*_, min}
 use native.Mathlib.Omega.{arith}
-use lib.Dec.{eqb}
 use lib.ListN.{take, drop}
-use borrow.Author.Tests.{eq-eqb, ne-eqb}
-use Rattle.laws.specs.Text.{space, text}
+use borrow.Author.Tests.{ne-eqb}
+use Rattle.laws.specs.Text.{text}
 use Rattle.flags.specs.Flags.{warningNames}
 use Rattle.reply.specs.Data.{refusals, nameIn, refusalName}
-use Rattle.reply.specs.Pieces.{warningAt, nameIf}
+use Rattle.reply.specs.Pieces.{warningAt}
 
 -- ---- the table of names that the code looks into
 pub warning-word : (k j : ℕ) → j ≡ min k 8 → take 2 (drop (3 * j) (text "FD FQ FS FT FB FP FE WR --")) ≡ warningAt k
@@ -38,13 +37,3 @@ refusal-none n a b c d e f g = simp (
   ne-eqb n 15 f,
   ne-eqb n 16 g,
 )
-
--- ---- a name behind a space, or nothing
-module _ (bit k : ℕ) where
-  pub name-yes : bit ≡ 1 → nameIf (eqb bit 1) k ≡ (space ∷ []) ++ warningAt k
-  unfolding nameIf
-  name-yes h = rw (eq-eqb bit 1 h)
-
-  pub name-no : (bit ≡ 1 → ⊥) → nameIf (eqb bit 1) k ≡ []
-  unfolding nameIf
-  name-no h = rw (ne-eqb bit 1 h)

@@ -4,10 +4,11 @@ use mathlib.Core.Path.{_≡_, refl, sym, _∙_}
 use mathlib.Core.Logic.{⊎-elim}
 use mathlib.Core.Bool.{Bool, true, false, cond}
 use mathlib.Core.List.{List, [], _∷_, _++_, append-assoc}
-use Prim.Native.Nat.{ℕ, zero, suc, _+_, _-_, _<_, min}
+use Prim.Native.Nat.{ℕ, zero, suc, _+_, _-_, _≤_, _<_, min}
 use native.Mathlib.Omega.{arith}
 use lib.ListN.{length, take, drop}
 use lib.Seq.{take-all, take-nil}
+use mir.Val.{boolByte}
 use Rattle.laws.specs.Text.{space, text, spaced}
 use Rattle.laws.proofs.Order.{lt-or-le}
 use Rattle.numbers.specs.Checksum.{checksum, sumText}
@@ -23,6 +24,11 @@ use Rattle.reply.specs.declared.Head.{Head}
 pub highest-is : (m : ℕ) → warningAt (first (bits 8 m)) ≡ highest m
 unfolding highest warningsIn warningAt
 highest-is m = sym (warnings-highest m (text "--"))
+
+-- a bool as a number
+pub bit-small : (b : Bool) → boolByte b ≤ 1
+bit-small true = omega arith
+bit-small false = omega arith
 
 -- verdict and status in one text
 pub state-is : (ok busy : Bool) → cond ok (cond busy (text " OK BUSY ") (text " OK IDLE "))

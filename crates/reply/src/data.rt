@@ -1,16 +1,13 @@
 // Writes a reply's data into a lent buffer: values, the list of warnings, the words of an echo, a refusal's name.
 // specs/Data.antt says each of these texts; specs/Pieces.antt those of the inner writers.
 ghost use mathlib.Core.Path.{_≡_};
-ghost use mathlib.Core.List.{_∷_};
 ghost use Prim.Native.Nat.{_+_, _≤_};
-ghost use lib.Dec.{eqb};
 ghost use lib.ListN.{length, take, drop};
-ghost use Rattle.laws.specs.Text.{space};
 ghost use Rattle.laws.proofs.Spaced.{trail};
 ghost use Rattle.words.specs.Cutting.{cut};
 ghost use Rattle.buffer.specs.Wrote.{Wrote};
 ghost use Rattle.reply.specs.Data.{warningList, echoed, refusalName};
-ghost use Rattle.reply.specs.Pieces.{warningAt, nameIf};
+ghost use Rattle.reply.specs.Pieces.{warningAt};
 use buffer::put_byte;
 use buffer::put_text;
 use buffer::put_two;
@@ -37,7 +34,7 @@ fn two_from(s: &[u8], start: usize) -> &[u8]
 }
 
 // The name of the warning at a place from 0, or `--`: two letters, and a space between two names.
-pub fn put_warning(buf: &mut [u8], at: usize, place: u32) -> usize
+pub(crate) fn put_warning(buf: &mut [u8], at: usize, place: u32) -> usize
     ensures { λ r. ⌜ Wrote (now (buf .entry)) at (warningAt place) (now (buf .exit)) r ⌝ }
 {
     let k = lesser(place as usize, 8);
@@ -45,7 +42,7 @@ pub fn put_warning(buf: &mut [u8], at: usize, place: u32) -> usize
 }
 
 // The name of a refusal that is replied; no other number has one.
-pub fn put_refusal(buf: &mut [u8], at: usize, number: u8) -> usize
+pub(crate) fn put_refusal(buf: &mut [u8], at: usize, number: u8) -> usize
     ensures { λ r. ⌜ Wrote (now (buf .entry)) at (refusalName number) (now (buf .exit)) r ⌝ }
 {
     match number {
@@ -61,38 +58,21 @@ pub fn put_refusal(buf: &mut [u8], at: usize, number: u8) -> usize
 }
 
 // The number of warnings that a mask has, and their names.
-pub fn put_warnings(buf: &mut [u8], at: usize, m: u32) -> usize
+pub(crate) fn put_warnings(buf: &mut [u8], at: usize, m: u32) -> usize
     ensures { λ r. ⌜ Wrote (now (buf .entry)) at (warningList m) (now (buf .exit)) r ⌝ }
 {
     let mut next = put_two(buf, at, flags::number(m) as u64);
     let mut left = m;
     let mut i: u32 = 0;
     while i < 8 {
-        next = put_if(buf, next, left % 2, i);
+        if left % 2 == 1 {
+            next = put_byte(buf, next, b' ');
+            next = put_warning(buf, next, i);
+        }
         left = left / 2;
         i += 1;
     }
     next
-}
-
-// A warning's name behind a space, if its bit is 1.
-fn put_if(buf: &mut [u8], at: usize, bit: u32, place: u32) -> usize
-    ensures { λ r. ⌜ Wrote (now (buf .entry)) at (nameIf (eqb bit 1) place) (now (buf .exit)) r ⌝ }
-{
-    if bit == 1 {
-        let next = put_byte(buf, at, b' ');
-        put_warning(buf, next, place)
-    } else {
-        at
-    }
-}
-
-// A word behind a space.
-fn put_word(buf: &mut [u8], at: usize, w: &[u8]) -> usize
-    ensures { λ r. ⌜ Wrote (now (buf .entry)) at (space ∷ now (w .entry)) (now (buf .exit)) r ⌝ }
-{
-    let next = put_byte(buf, at, b' ');
-    put_text(buf, next, w)
 }
 
 // The next words of an echo, from a place of s on, each behind a space.
@@ -108,7 +88,8 @@ fn put_more(buf: &mut [u8], at: usize, s: &[u8], from: usize) -> usize
                 return next;
             }
             Next::Word { start, end } => {
-                next = put_word(buf, next, &s[start..end]);
+                let gap = put_byte(buf, next, b' ');
+                next = put_text(buf, gap, &s[start..end]);
                 place = end;
                 left -= 1;
             }
@@ -118,7 +99,7 @@ fn put_more(buf: &mut [u8], at: usize, s: &[u8], from: usize) -> usize
 }
 
 // The first 17 words from a place of s on.
-pub fn put_echo(buf: &mut [u8], at: usize, s: &[u8], from: usize) -> usize
+pub(crate) fn put_echo(buf: &mut [u8], at: usize, s: &[u8], from: usize) -> usize
     ensures { λ r. ⌜ Wrote (now (buf .entry)) at (echoed (cut (drop from (now (s .entry))))) (now (buf .exit)) r ⌝ }
 {
     match words::next_word(s, from) {

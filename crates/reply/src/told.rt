@@ -9,9 +9,7 @@ use crate::data::put_echo;
 use crate::data::put_refusal;
 use crate::data::put_warnings;
 use buffer::put_byte;
-use buffer::put_either;
 use buffer::put_signed;
-use buffer::put_text;
 use units::Number;
 use units::lesser;
 
@@ -54,14 +52,13 @@ fn put_listed(buf: &mut [u8], at: usize, v: Listed) -> usize
 {
     let from = lesser(v.from, 4);
     let many = lesser(v.many, 4 - from);
-    if many == 0 {
-        return at;
-    }
-    let mut next = put_signed(buf, at, pick(v, from));
-    let mut n: usize = 1;
+    let mut next = at;
+    let mut n: usize = 0;
     while n < many {
-        let gap = put_byte(buf, next, b' ');
-        next = put_signed(buf, gap, pick(v, from + n));
+        if 0 < n {
+            next = put_byte(buf, next, b' ');
+        }
+        next = put_signed(buf, next, pick(v, from + n));
         n += 1;
     }
     next
@@ -80,11 +77,11 @@ pub fn put_told(buf: &mut [u8], at: usize, x: Told, line: &[u8]) -> usize
     ensures { λ r. ⌜ Wrote (now (buf .entry)) at (toldText (now (line .entry)) x) (now (buf .exit)) r ⌝ }
 {
     match x {
-        Told::Nought => put_text(buf, at, b"0"),
+        Told::Nought => put_byte(buf, at, b'0'),
         Told::One(n) => put_signed(buf, at, n),
         Told::Values(v) => put_listed(buf, at, v),
         Told::Active(m) => put_warnings(buf, at, m),
-        Told::Parked(p) => put_either(buf, at, p, b"1", b"0"),
+        Told::Parked(p) => put_byte(buf, at, b'0' + p as u8),
         Told::Words(from, end) => put_echo(buf, at, carried(line, from, end), 0),
         Told::Name(n) => put_refusal(buf, at, n),
     }

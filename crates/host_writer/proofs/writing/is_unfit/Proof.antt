@@ -13,7 +13,7 @@ returns c =
     let form = demands .before in
     let start = form .before .before in
     unfit-is (start .args .c) (start .args .message .now) (form .form .ensures) (demands .demands .ensures) (words .words .ensures)
-    (plain .is-plain .ensures)
+    (plain .all-data .ensures)
 
 pub is-unfit-spec : {M : Type 1} → statement M
 is-unfit-spec = tie.close

@@ -5,7 +5,7 @@ use lib.ListN.{take, drop}
 use Rattle.laws.proofs.Spaced.{trail}
 use Rattle.words.specs.Cutting.{cut}
 use Rattle.words.proofs.Cut.{Part, found-word, found-end}
-use Rattle.buffer.proofs.Wrote.{wrote-length}
+use Rattle.buffer.proofs.Wrote.{_▸_, wrote-length}
 use Rattle.reply.proofs.Writing.{Writing, writing-first, writing-end}
 use Rattle.reply.proofs.Lists.{echo-turn, echo-end, echo-full}
 use borrow.Author.Needs.{needs}
@@ -41,22 +41,23 @@ returns c =
     let none = found-end _ (loop .loop .place) (next-word .next-word .ensures) (search) in
     writing-end (rw (echo-end (loop .loop .left) _ none) at (loop .loop .inv))
 
-sub-put-word : tie.Need-sub-put-word Inv-loop μ-loop
-sub-put-word c = omega (arith, the-word (c .before))
+sub-put-text : tie.Need-sub-put-text Inv-loop μ-loop
+sub-put-text c = omega (arith, the-word (c .before .before .before .before .before))
 
-part-put-word-start : tie.Need-part-put-word-start Inv-loop μ-loop
-part-put-word-start c = omega (arith, the-word (c .before))
+part-put-text-start : tie.Need-part-put-text-start Inv-loop μ-loop
+part-put-text-start c = omega (arith, the-word (c .before .before .before .before .before))
 
-part-put-word-end : tie.Need-part-put-word-end Inv-loop μ-loop
-part-put-word-end c = omega (arith, the-word (c .before))
+part-put-text-end : tie.Need-part-put-text-end Inv-loop μ-loop
+part-put-text-end c = omega (arith, the-word (c .before .before .before .before .before))
 
 loop-again : tie.Need-loop-again Inv-loop μ-loop
 loop-again c =
     let written = c .before .before in
-    let word = written .before .before .before in
+    let gap = written .before .before .before .before .before in
+    let word = gap .before .before in
     let turn = word .before .before .before .before in
     echo-turn (turn .before .loop .left) (turn .loop-test .taken) (the-word word .words) (turn .before .loop .inv)
-    (written .put-word .ensures)
+    (gap .put-byte .ensures ▸ written .put-text .ensures)
 
 same-length-2 : tie.Need-same-length-2 Inv-loop μ-loop
 same-length-2 c = wrote-length (c .before .loop .inv .wrote)
@@ -70,5 +71,6 @@ returns-2 c =
 pub put-more-spec : {M : Type 1} → statement M
 put-more-spec =
     tie.close
-    (tie.spec Inv-loop μ-loop loop-holds (λ c κs. search needs) (λ c. search needs) same-length returns (λ c. search needs) sub-put-word
-    part-put-word-start part-put-word-end (λ c κs. search needs) (λ c. search needs) (λ c. search needs) loop-again same-length-2 returns-2)
+    (tie.spec Inv-loop μ-loop loop-holds (λ c κs. search needs) (λ c. search needs) same-length returns (λ c. search needs)
+    (λ c κs. search needs) sub-put-text part-put-text-start part-put-text-end (λ c κs. search needs) (λ c. search needs)
+    (λ c. search needs) loop-again same-length-2 returns-2)

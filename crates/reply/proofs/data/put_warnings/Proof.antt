@@ -1,6 +1,7 @@
 -- `reply::data::put_warnings` meets its contract. Invariant: what the loop has written, with the names that are left, is the whole.
 -- Assumes nothing.
 use borrow.Author.Needs.{needs}
+use mathlib.Core.Logic.{⊎-elim}
 use Prim.Native.Nat.{_≤_, _-_}
 use native.Mathlib.Omega.{arith}
 use lib.ListN.{drop}
@@ -8,7 +9,7 @@ use Rattle.laws.proofs.Spaced.{trail}
 use Rattle.flags.specs.Flags.{bits, named, warningNames}
 use Rattle.buffer.proofs.Wrote.{_▸_, wrote-length}
 use Rattle.reply.proofs.Writing.{Writing, writing-first, writing-end}
-use Rattle.reply.proofs.Lists.{list-split, names-turn, names-end}
+use Rattle.reply.proofs.Lists.{list-split, names-yes, names-no, names-end}
 use Rattle.reply.proofs.data.put_warnings.Statement.{statement}
 use Rattle.reply.proofs.data.put_warnings.Tie as tie
 
@@ -30,9 +31,13 @@ loop-less c = omega arith
 
 loop-again : tie.Need-loop-again Inv-loop μ-loop
 loop-again c =
-    let name = c .before .before in
-    let turn = name .before .before in
-    (omega arith, names-turn _ _ (turn .loop-test .taken) (turn .before .loop .inv .1) (name .put-if .ensures))
+    let l = c .before .before .loop in
+    let i = c .before .loop-test .taken in (
+      omega arith,
+      ⊎-elim (λ w. names-yes _ _ i (l .inv .1) (w .0 .taken) (w .2 .ensures ▸ w .6 .ensures) (w .9) (w .10))
+          (λ w. names-no _ _ i (l .inv .1) (w .0 .left) (w .1) (w .2))
+          (c .if1 .came),
+    )
 
 returns : tie.Need-returns Inv-loop μ-loop
 returns c =
@@ -46,5 +51,5 @@ same-length c = wrote-length (returns c)
 pub put-warnings-spec : {M : Type 1} → statement M
 put-warnings-spec =
     tie.close
-    (tie.spec Inv-loop μ-loop (λ c κs. search needs) (λ c. search needs) (λ c κs. search needs) loop-holds (λ c κs. search needs) add-i
-    loop-less loop-again same-length returns)
+    (tie.spec Inv-loop μ-loop (λ c κs. search needs) (λ c. search needs) (λ c κs. search needs) loop-holds (λ c κs. search needs)
+    (λ c κs. search needs) add-i loop-less loop-again same-length returns)
