@@ -9,6 +9,7 @@ use native.Mathlib.Numerals.{add-one}
 use native.Mathlib.Omega.{arith}
 use lib.ListN.{length, getD, set, take, drop, length-append, length-take, length-set, take-append-drop, drop-of-length-le}
 use lib.Seq.{take-suc, take-at, take-all, take-suc-set, drop-set-lt, sets, length-sets, set-out}
+use Rattle.laws.proofs.Answers.{one-answer}
 use Rattle.laws.proofs.Order.{lt-or-le}
 use Rattle.buffer.specs.Wrote.{Wrote, fitting}
 
@@ -119,7 +120,7 @@ wrote-read {b} {t} {c} {r} w h =
 
 -- the promise leaves no choice
 pub wrote-one : {b : List ℕ} {at : ℕ} {t c d : List ℕ} {r q : ℕ} → Wrote b at t c r → Wrote b at t d q → (c ≡ d) × (r ≡ q)
-wrote-one v w = (v .bytes ∙ sym (w .bytes), v .place ∙ sym (w .place))
+wrote-one v w = (one-answer (v .bytes) (w .bytes), one-answer (v .place) (w .place))
 
 -- the place behind a write from the front stands in the buffer
 pub wrote-inside : {b t c : List ℕ} {r : ℕ} → Wrote b 0 t c r → r ≤ length c

@@ -7,8 +7,9 @@ use Prim.Native.Nat.{ℕ, _+_, _-_, _≤_, _<_, min}
 use native.Mathlib.Omega.{arith}
 use lib.ListN.{length, take, drop, replicate, drop-of-length-le}
 use Rattle.laws.specs.Text.{text}
+use Rattle.laws.proofs.Answers.{one-answer}
 use Rattle.buffer.specs.Wrote.{Wrote}
-use Rattle.buffer.proofs.Wrote.{_▸_, wrote-none}
+use Rattle.buffer.proofs.Wrote.{_▸_, wrote-none, wrote-one}
 use Rattle.device.specs.declared.Device.{Device}
 use Rattle.device.specs.declared.Outcome.{Outcome}
 use Rattle.carriage.specs.declared.Answer.{Answer}
@@ -34,6 +35,13 @@ module _ (d : Device) (p : List ℕ) {b o : List ℕ} {at r : ℕ} where
       → Took (reportTurn d (readReport p)) b at (record { place = r; next = x .next }) o
   unfolding reportTurn
   took-report q e w = rw (← q, ← e) (record { prints = w; next = refl })
+
+-- the promise of a turn leaves no choice
+pub took-one : {t : Turn} {b : List ℕ} {at : ℕ} {r q : Turned} {c o : List ℕ} → Took t b at r c → Took t b at q o → (r ≡ q) × (c ≡ o)
+took-one x y =
+    let printed = wrote-one (x .prints) (y .prints) in
+    let next = one-answer (x .next) (y .next) in
+    ((λ i. record { place = printed .1 i; next = next i }), printed .0)
 
 -- ---- a part
 module _ (d : Device) (p : List ℕ) {b o : List ℕ} {at : ℕ} {r : Turned} {t : Bool} (said : t ≡ isReport p) where

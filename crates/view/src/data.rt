@@ -23,7 +23,8 @@ fn setting_told(d: Device, k: u64, s: Setting) -> Told
 // What is told of a command of this form for axis k. The record is the one before the command; the words of an echo stand in
 // the line from a place to another.
 pub fn told(d: Device, k: u64, f: Form, x: Data, from: usize, end: usize) -> Told
-    ensures { λ r. ⌜ (length (d .axes) ≡ 4) × (r ≡ toldOf d k f x from end) ⌝ }
+    ensures told { λ r. ⌜ r ≡ toldOf d k f x from end ⌝ }
+    ensures places { λ r. ⌜ length (d .axes) ≡ 4 ⌝ }
 {
     match x {
         Data::Nought => Told::Nought,

@@ -12,26 +12,26 @@ four : (c : tie.Start) → length (c .args .d .axes) ≡ 4
 four c = search (needs, unmapped)
 
 returns : tie.Need-returns
-returns c = (four (c .before .before), simp (c .enum-told .given .1))
+returns c = (simp (c .enum-told .given .1), four (c .before .before))
 
 returns-2 : tie.Need-returns-2
-returns-2 c = (four (c .before .before .before), simp (c .setting-told .ensures, c .before .enum-told2 .given .1))
+returns-2 c = (simp (c .setting-told .ensures, c .before .enum-told2 .given .1), four (c .before .before .before))
 
 returns-3 : tie.Need-returns-3
-returns-3 c = (four (c .before .before .before .before), simp (c .listed .ensures, c .before .before .enum-told3 .given .1))
+returns-3 c = (simp (c .listed .ensures, c .before .before .enum-told3 .given .1), four (c .before .before .before .before))
 
 returns-4 : tie.Need-returns-4
-returns-4 c = (four (c .before .before .before), simp (c .listed2 .ensures, c .before .enum-told4 .given .1))
+returns-4 c = (simp (c .listed2 .ensures, c .before .enum-told4 .given .1), four (c .before .before .before))
 
 returns-5 : tie.Need-returns-5
 unfolding warningsOf
-returns-5 c = (four (c .before .before .before), simp (c .active .ensures, c .before .enum-told5 .given .1))
+returns-5 c = (simp (c .active .ensures, c .before .enum-told5 .given .1), four (c .before .before .before))
 
 returns-6 : tie.Need-returns-6
-returns-6 c = (four (c .before .before), simp (c .enum-told6 .given .1))
+returns-6 c = (simp (c .enum-told6 .given .1), four (c .before .before))
 
 returns-7 : tie.Need-returns-7
-returns-7 c = (four (c .before .before), simp (c .enum-told7 .given .1))
+returns-7 c = (simp (c .enum-told7 .given .1), four (c .before .before))
 
 pub told-spec : {M : Type 1} → statement M
 told-spec =
