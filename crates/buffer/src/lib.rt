@@ -13,12 +13,11 @@ use units::Number;
 pub fn put_byte(buf: &mut [u8], at: usize, b: u8) -> usize
     ensures { λ r. ⌜ Wrote (now (buf .entry)) at (b ∷ []) (now (buf .exit)) r ⌝ }
 {
-    if at < buf.len() {
-        buf[at] = b;
-        at + 1
-    } else {
-        at
+    if buf.len() <= at {
+        return at;
     }
+    buf[at] = b;
+    at + 1
 }
 
 // Asks for room once.

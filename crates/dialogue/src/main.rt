@@ -95,7 +95,7 @@ fn say_either(yes: bool, a: &[u8], b: &[u8]) {
     }
 }
 
-// What a reply says. Its data begins at byte 17.
+// What a reply says.
 fn say_message(h: Message, reply: &[u8]) {
     say(b" => address ");
     say_number(h.address);
@@ -105,7 +105,7 @@ fn say_message(h: Message, reply: &[u8]) {
     say_either(h.busy, b"BUSY, ", b"IDLE, ");
     say(words::nth_word(b"-- FD FQ FS FT FB FP FE WR", h.warning));
     say(b", data ");
-    say(field(reply, 17, h.length));
+    say(field(reply, h.place, h.length));
     say(b"\n");
 }
 
@@ -154,8 +154,7 @@ fn motors(d: Device, k: u8) -> Device {
 }
 
 fn main() {
-    let fresh = Device::fresh(Number(1), 2, Number(100));
-    let mut d = fresh.next;
+    let mut d = session::bench_device();
     let mut k: u8 = 0;
     while k < 22 {
         let next = ask(d, axis(k), command(k), k % 2 == 1);

@@ -36,11 +36,11 @@ fn say(k: u8, same: bool) {
     }
 }
 
-// A session that is missing is none that agrees.
+// A session that is missing is none that agrees. An output has twice the room of a stored one: where it is cut, it differs.
 fn replay(k: u8) {
     let mut input = [0u8; 8192];
     let got = read_file(k, b".in", &mut input);
-    let mut output = [0u8; 393216];
+    let mut output = [0u8; 32768];
     let length = session::run(&input[..got], &mut output);
     let mut stored = [0u8; 16384];
     let expected = read_file(k, b".out", &mut stored);

@@ -21,14 +21,14 @@ pub enum Next {
 pub fn start_of(s: &[u8], at: usize) -> usize
     ensures { λ r. ⌜ r ≡ startOf (now (s .entry)) at ⌝ }
 {
-    let mut i = at;
-    while i < s.len() {
-        if s[i] != b' ' {
-            return i;
+    let mut start = at;
+    while start < s.len() {
+        if s[start] != b' ' {
+            return start;
         }
-        i += 1;
+        start += 1;
     }
-    i
+    start
 }
 
 // The first place from at on that has a space, or the end.

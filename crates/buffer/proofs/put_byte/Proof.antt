@@ -6,11 +6,11 @@ use Rattle.buffer.proofs.put_byte.Statement.{statement}
 use Rattle.buffer.proofs.put_byte.Tie as tie
 
 returns : tie.Need-returns
-returns c = wrote-byte _ _ _ (c .if1 .taken)
+returns c = wrote-past _ _ _ (c .if1 .taken)
 
 returns-2 : tie.Need-returns-2
-returns-2 c = wrote-past _ _ _ (c .if1 .left)
+returns-2 c = wrote-byte _ _ _ (c .if1 .left)
 
 pub put-byte-spec : {M : Type 1} → statement M
 put-byte-spec = tie.close
-    (tie.spec (λ c. search needs) (λ c. search needs) (λ c. search needs) returns returns-2)
+    (tie.spec returns (λ c. search needs) (λ c. search needs) (λ c. search needs) returns-2)

@@ -1,4 +1,4 @@
--- Invariant: what is passed from i on, behind i, ends where what is passed from at on ends.
+-- Invariant: what is passed from start on, behind start, ends where what is passed from at on ends.
 -- Assumes nothing.
 use mathlib.Core.Path.{_≡_, refl, sym, _∙_}
 use Prim.Native.Nat.{_+_, _-_}
@@ -12,10 +12,10 @@ use Rattle.words.proofs.start_of.Statement.{statement}
 use Rattle.words.proofs.start_of.Tie as tie
 
 abbrev Inv-loop : tie.InvT-loop
-Inv-loop s at i₀ i = i + span isSpace (drop i s) ≡ at + span isSpace (drop at s)
+Inv-loop s at start₀ start = start + span isSpace (drop start s) ≡ at + span isSpace (drop at s)
 
 abbrev μ-loop : tie.MeasureT-loop
-μ-loop s at i₀ i = length s - i
+μ-loop s at start₀ start = length s - start
 
 loop-holds : tie.Need-loop-holds Inv-loop μ-loop
 loop-holds c = refl
@@ -28,8 +28,8 @@ returns c =
     let l = c .before .before in
     sym (stopped isSpace _ _ (l .loop-test .taken) (space-not _ (c .if1 .taken))) ∙ l .before .loop .inv
 
-add-i : tie.Need-add-i Inv-loop μ-loop
-add-i c = omega arith
+add-start : tie.Need-add-start Inv-loop μ-loop
+add-start c = omega arith
 
 loop-less : tie.Need-loop-less Inv-loop μ-loop
 loop-less c = omega arith
@@ -45,4 +45,4 @@ returns-2 c = sym (ended isSpace _ _ (c .loop-test .left)) ∙ c .before .loop .
 pub start-of-spec : {M : Type 1} → statement M
 start-of-spec =
     tie.close
-    (tie.spec Inv-loop μ-loop loop-holds shared-slice-read-if1 returns add-i loop-less loop-again returns-2)
+    (tie.spec Inv-loop μ-loop loop-holds shared-slice-read-if1 returns add-start loop-less loop-again returns-2)
