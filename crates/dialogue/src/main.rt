@@ -154,7 +154,8 @@ fn motors(d: Device, k: u8) -> Device {
 }
 
 fn main() {
-    let mut d = session::bench_device();
+    let fresh = Device::fresh(Number(1), 2, Number(100));
+    let mut d = fresh.next;
     let mut k: u8 = 0;
     while k < 22 {
         let next = ask(d, axis(k), command(k), k % 2 == 1);
