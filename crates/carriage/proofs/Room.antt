@@ -29,7 +29,8 @@ use Rattle.carriage.proofs.Demands.{every-answer}
 
 reply-short : (d : Device) (k : ℕ) (ok : Bool) (words : List ℕ) → d .count ≤ 4 → length words ≤ 74 → length (replyOf d k ok words) ≤ 96
 unfolding replyOf headOf
-reply-short d k ok words few h = reply-length (headOf d k ok) (shown-digit d k few) (wantsSum d) words (omega (arith, most-data (wantsSum d)))
+reply-short d k ok words few h =
+    reply-length (headOf d k ok) (shown-digit d k few) (wantsSum d) words (omega (arith, most-data (wantsSum d)))
 
 pub reply-at-most-96 : (d : Device) (l b : List ℕ) → step d l b .answer .length ≤ 96
 unfolding silent rejected accepted written

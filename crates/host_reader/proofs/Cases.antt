@@ -77,6 +77,6 @@ rows =
     ∷ []
 
 pub reply-cases : map (λ r. readReply (r .line)) rows ≡ map (λ r. r .answer) rows
-unfolding rows readReply isReply framed marked stands field headIn rightHead messageOf twoOf verdicts statuses warnings warningNames dataLength
-    dataByte rightEnd span index valueOf readPair total checksum text same
+unfolding rows readReply isReply framed marked stands field headIn rightHead messageOf twoOf verdicts statuses warnings warningNames
+    dataLength dataByte rightEnd span index valueOf readPair total checksum text same
 reply-cases = refl
