@@ -363,7 +363,7 @@ class Maker:
         self.bytes += b'/set comm.address %d\n' % self.address
 
     def summing(self):
-        self.line(['set', 'comm.checksum', self.pick('0', '1', '1')], 0)
+        self.line(['set', 'comm.checksum', self.pick('0', '0', '1')], 0)
         self.line(self.command())
 
     def sweep(self):

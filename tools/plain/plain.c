@@ -761,7 +761,7 @@ int plain_fresh(struct device *device, int address, int axiscount, int deviceid)
     for (int i = 0; i < AXIS_SETTINGS; i++)
         axis.setting[i] = fresh_axis[i];
     *device = (struct device){
-        .setting = { [ADDRESS - AXIS_SETTINGS] = address, [ACCESS - AXIS_SETTINGS] = 1,
+        .setting = { [ADDRESS - AXIS_SETTINGS] = address, [CHECKSUM - AXIS_SETTINGS] = 1, [ACCESS - AXIS_SETTINGS] = 1,
                      [DEVICEID - AXIS_SETTINGS] = deviceid, [AXISCOUNT - AXIS_SETTINGS] = axiscount },
         .axis = { axis, axis, axis, axis },
     };

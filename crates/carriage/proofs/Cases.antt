@@ -1,5 +1,5 @@
--- The cases of document 01 that are marked P, and some beside them, as one table under one statement: what came before, the line, the
--- number and the whole reply. Over the very definitions that the promises of `step` and `report` cite, closed by computation.
+-- The cases of document 01 that are marked P, with the checksums of 02's order 1, and some beside them, as one table under one statement:
+-- what came before, the line, the number and the whole reply. Over the very definitions that `step` and `report` promise, by computation.
 use mathlib.Core.Path.{_≡_, refl}
 use mathlib.Core.List.{List, [], _∷_, _++_, map}
 use Prim.Native.Nat.{ℕ}
@@ -49,34 +49,35 @@ case b l n r = record { before = b; line = l; number = n; reply = r }
 
 unfoldable pub cases : List Case
 cases =
-    case [] "/\n" ACCEPTED "@01 0 OK IDLE WR 0\r\n"
+    case [] "/\n" ACCEPTED "@01 0 OK IDLE WR 0:3E\r\n"
     ∷ case [] "/" NOTLINE ""
-    ∷ case [] "/01 tools echo:8F\n" ACCEPTED "@01 0 OK IDLE WR 0\r\n"
+    ∷ case [] "/01 tools echo:8F\n" ACCEPTED "@01 0 OK IDLE WR 0:3E\r\n"
     ∷ case [] "/01 tools echo:8E\n" BADSUM ""
     ∷ case [] "/0x63 home\n" NOTMINE ""
     ∷ case [] "/0x64 home\n" BADADDRESS ""
     ∷ case [] "/-1\n" BADADDRESS ""
-    ∷ case [] "/1 7 home\n" BADAXIS "@01 0 RJ IDLE WR BADAXIS\r\n"
-    ∷ case [] "/1 1 get comm.alert\n" DEVICEONLY "@01 1 RJ IDLE WR DEVICEONLY\r\n"
-    ∷ case [] "/set driver.dir 1\n" NOACCESS "@01 0 RJ IDLE WR NOACCESS\r\n"
-    ∷ case [] "/01 set comm.address 5\n" ACCEPTED "@05 0 OK IDLE WR 0\r\n"
-    ∷ case homed "/move abs 305381\n" ACCEPTED "@01 0 OK BUSY -- 0\r\n"
-    ∷ case homed "/move abs 305382\n" BADDATA "@01 0 RJ IDLE -- BADDATA\r\n"
-    -- beside those of document 01: an axis that is not 0, data that are not 0, values of both axes
-    ∷ case [] "/1 2 home\n" ACCEPTED "@01 2 OK BUSY WR 0\r\n"
-    ∷ case [] "/1 2 get limit.max\n" ACCEPTED "@01 2 OK IDLE WR 305381\r\n"
-    ∷ case [] "/1 get maxspeed\n" ACCEPTED "@01 0 OK IDLE WR 153600 153600\r\n"
-    ∷ case [] "/tools echo a  b\n" ACCEPTED "@01 0 OK IDLE WR a b\r\n"
-    ∷ case [] "/set comm.checksum 1\n" ACCEPTED "@01 0 OK IDLE WR 0:3E\r\n"
-    ∷ case [] "/1 2 moves\n" BADCOMMAND "@01 2 RJ IDLE WR BADCOMMAND\r\n"
-    ∷ case homed "/1 2 move abs 305382\n" BADDATA "@01 2 RJ IDLE -- BADDATA\r\n"
-    ∷ case gone "/get pos\n" ACCEPTED "@01 0 OK IDLE -- 0 10000\r\n"
-    ∷ case gone "/1 2 get pos\n" ACCEPTED "@01 2 OK IDLE -- 10000\r\n"
-    ∷ case (gone ++ sent "/1 1 home\n" ∷ []) "/1 2\n" ACCEPTED "@01 2 OK IDLE -- 0\r\n"
-    ∷ case (gone ++ sent "/1 1 home\n" ∷ []) "/1\n" ACCEPTED "@01 0 OK BUSY -- 0\r\n"
-    ∷ case (gone ++ sent "/1 1 home\n" ∷ []) "/1 1 set pos 5\n" STATUSBUSY "@01 1 RJ BUSY -- STATUSBUSY\r\n"
-    ∷ case (told 2 4 3 ∷ []) "/1 1 warnings\n" ACCEPTED "@01 1 OK IDLE WR 01 WR\r\n"
-    ∷ case (told 2 4 3 ∷ []) "/warnings\n" ACCEPTED "@01 0 OK IDLE FS 02 FS WR\r\n"
+    ∷ case [] "/1 7 home\n" BADAXIS "@01 0 RJ IDLE WR BADAXIS:70\r\n"
+    ∷ case [] "/1 1 get comm.alert\n" DEVICEONLY "@01 1 RJ IDLE WR DEVICEONLY:79\r\n"
+    ∷ case [] "/set driver.dir 1\n" NOACCESS "@01 0 RJ IDLE WR NOACCESS:1D\r\n"
+    ∷ case [] "/01 set comm.address 5\n" ACCEPTED "@05 0 OK IDLE WR 0:3A\r\n"
+    ∷ case homed "/move abs 305381\n" ACCEPTED "@01 0 OK BUSY -- 0:68\r\n"
+    ∷ case homed "/move abs 305382\n" BADDATA "@01 0 RJ IDLE -- BADDATA:DA\r\n"
+    -- beside those of document 01: an axis that is not 0, data that are not 0, values of both axes, replies without a checksum
+    ∷ case [] "/1 2 home\n" ACCEPTED "@01 2 OK BUSY WR 0:17\r\n"
+    ∷ case [] "/1 2 get limit.max\n" ACCEPTED "@01 2 OK IDLE WR 305381:38\r\n"
+    ∷ case [] "/1 get maxspeed\n" ACCEPTED "@01 0 OK IDLE WR 153600 153600:F0\r\n"
+    ∷ case [] "/tools echo a  b\n" ACCEPTED "@01 0 OK IDLE WR a b:8B\r\n"
+    ∷ case [] "/set comm.checksum 0\n" ACCEPTED "@01 0 OK IDLE WR 0\r\n"
+    ∷ case (sent "/set comm.checksum 0\n" ∷ []) "/set comm.checksum 1\n" ACCEPTED "@01 0 OK IDLE WR 0:3E\r\n"
+    ∷ case [] "/1 2 moves\n" BADCOMMAND "@01 2 RJ IDLE WR BADCOMMAND:A4\r\n"
+    ∷ case homed "/1 2 move abs 305382\n" BADDATA "@01 2 RJ IDLE -- BADDATA:D8\r\n"
+    ∷ case gone "/get pos\n" ACCEPTED "@01 0 OK IDLE -- 0 10000:7C\r\n"
+    ∷ case gone "/1 2 get pos\n" ACCEPTED "@01 2 OK IDLE -- 10000:CA\r\n"
+    ∷ case (gone ++ sent "/1 1 home\n" ∷ []) "/1 2\n" ACCEPTED "@01 2 OK IDLE -- 0:8B\r\n"
+    ∷ case (gone ++ sent "/1 1 home\n" ∷ []) "/1\n" ACCEPTED "@01 0 OK BUSY -- 0:68\r\n"
+    ∷ case (gone ++ sent "/1 1 home\n" ∷ []) "/1 1 set pos 5\n" STATUSBUSY "@01 1 RJ BUSY -- STATUSBUSY:6E\r\n"
+    ∷ case (told 2 4 3 ∷ []) "/1 1 warnings\n" ACCEPTED "@01 1 OK IDLE WR 01 WR:43\r\n"
+    ∷ case (told 2 4 3 ∷ []) "/warnings\n" ACCEPTED "@01 0 OK IDLE FS 02 FS WR:9A\r\n"
     ∷ []
 
 -- the number, and the bytes of the reply

@@ -56,10 +56,10 @@ axesOf d k = take (many d k) (drop (k - 1) (d .axes))
 unfoldable pub onAxes : (Axis → Axis) → ℕ → Device → Device
 onAxes g k d = withAxes (changeFrom g (k - 1) (many d k) (d .axes)) d
 
--- "alert 0, checksum 0"
+-- "alert 0"; 02, order 1: "A fresh record now has comm.checksum 1"
 abbrev pub freshComm : Number → Comm
-freshComm address = comm address (number (plus 0)) (number (plus 0))
+freshComm address = comm address (number (plus 0)) (number (plus 1))
 
--- "not parked, alert 0, checksum 0, access 1"
+-- "not parked", "access 1"
 unfoldable pub fresh : Number → ℕ → Number → Device
 fresh address count id = device (freshComm address) (number (plus 1)) id count false (replicate 4 freshAxis)

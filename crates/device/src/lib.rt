@@ -33,11 +33,12 @@ impl Comm {
     fn fresh(address: Number) -> Comm
         ensures { λ r. ⌜ r ≡ freshComm address ⌝ }
     {
-        let zero = Number(0);
+        let alert = Number(0);
+        let checksum = Number(1);
         Comm {
             address,
-            alert: zero,
-            checksum: zero,
+            alert,
+            checksum,
         }
     }
 }
