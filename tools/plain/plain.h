@@ -1,5 +1,5 @@
 /* The carriage controller in C, the usual way: the device record, and what a line and a motor report make of it.
-   Written from the rules of document 01 alone, as a second opinion on the proved library. */
+   Written from document 01, and the orders of 02 that have landed, alone: a second opinion on the proved library. */
 #ifndef PLAIN_H
 #define PLAIN_H
 
