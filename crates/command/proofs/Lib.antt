@@ -1,4 +1,3 @@
-pub mod Arms
 pub mod Demands
 pub mod FormMakes
 pub mod Rules
