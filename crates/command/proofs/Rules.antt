@@ -7,7 +7,8 @@ use Rattle.command.specs.declared.AxisSetting.the-variants.{Pos, LimitMi
 use Rattle.command.specs.declared.DeviceSetting.the-variants.{CommAddress, CommAlert, CommChecksum, SystemAccess, DeviceId, SystemAxisCount}
 use Rattle.command.specs.declared.Setting.{Setting}
 use Rattle.command.specs.declared.Setting.the-variants.{OfAxis, OfDevice}
-use Rattle.command.specs.Settings.{about, ruleOf, readOnly, onlyAtRest}
+use Rattle.command.specs.Settings.{about, readOnly, onlyAtRest}
+use Rattle.command.specs.Sums.{ruleOf}
 
 -- read with, written with, never written, written at rest
 abbrev Says : ℕ → Setting → Type 0

@@ -11,7 +11,8 @@ use Rattle.command.specs.declared.kinds.Use.the-variants.{Apart, Gets, S
 use Rattle.command.specs.declared.kinds.Data.{Data}
 use Rattle.command.specs.declared.kinds.Data.the-variants.{Nought, Values, Stored, Position, Active, Parked, Words}
 use Rattle.command.specs.declared.kinds.Kind.{Kind}
-use Rattle.command.specs.Commands.{kinds, kindOf, kindAt}
+use Rattle.command.specs.Commands.{kinds, kindAt}
+use Rattle.command.specs.Sums.{kindOf}
 
 abbrev useNumber : Use → ℕ
 useNumber Apart = 0

@@ -2,9 +2,8 @@
 -- the spelling and the reader: refusing, writing and what an echo carries are said from it.
 use mathlib.Core.Bool.{Bool, true, false, cond, _&&_}
 use mathlib.Core.List.{List, [], _∷_, _++_, map}
-use Prim.Native.Nat.{ℕ, _/_, _%_}
+use Prim.Native.Nat.{ℕ}
 use Prim.Native.String.{String}
-use lib.Dec.{eqb}
 use lib.ListN.{getD, length, drop}
 use Rattle.laws.specs.Text.{text}
 use Rattle.units.specs.Units.{position, speed}
@@ -133,17 +132,6 @@ kinds = map (λ r. r .kind) (none ∷ table)
 
 abbrev pub kindAt : ℕ → Kind
 kindAt k = getD kinds k (none .kind)
-
--- what is said of a row as one number, as the code keeps it: a sum of the number of the data (0 to 6), 8 where it only shows, 16 where
--- it takes its axes at rest, 32 where the device is to be unparked, 64 where it gets and 128 where it sets
-abbrev pub useOf : ℕ → Use
-useOf k = getD (Apart ∷ Gets ∷ []) k Sets
-
-abbrev pub dataOf : ℕ → Data
-dataOf k = getD (Nought ∷ Values ∷ Stored ∷ Position ∷ Active ∷ Parked ∷ []) k Words
-
-abbrev pub kindOf : ℕ → Kind
-kindOf sum = kind (useOf (sum / 64)) (eqb (sum / 32 % 2) 1) (eqb (sum / 16 % 2) 1) (eqb (sum / 8 % 2) 1) (dataOf (sum % 8))
 
 -- ---- what a command demands
 

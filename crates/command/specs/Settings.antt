@@ -2,7 +2,7 @@
 -- Its range depends on the record, and is said in the crates that have one.
 use mathlib.Core.Bool.{Bool, true, false}
 use mathlib.Core.List.{List, [], _∷_}
-use Prim.Native.Nat.{ℕ, _+_, _-_, _*_}
+use Prim.Native.Nat.{ℕ}
 use Prim.Native.String.{String}
 use Rattle.laws.specs.Text.{text}
 use Rattle.command.specs.declared.AxisSetting.{AxisSetting}
@@ -11,8 +11,10 @@ use Rattle.command.specs.declared.DeviceSetting.{DeviceSetting}
 use Rattle.command.specs.declared.DeviceSetting.the-variants.{CommAddress, CommAlert, CommChecksum, SystemAccess, DeviceId, SystemAxisCount}
 use Rattle.command.specs.declared.Setting.{Setting}
 use Rattle.command.specs.declared.Setting.the-variants.{OfAxis, OfDevice}
-use Rattle.command.specs.declared.Writing.{Writing}
-use Rattle.command.specs.declared.Writing.the-variants.{Always, AtRest, Never}
+
+-- when a setting may be written: always, with its axis at rest, or never ("read only")
+pub data Writing : Type 0 where
+  Always AtRest Never : Writing
 
 pub record About : Type 0 where
   pub name : List ℕ
@@ -50,16 +52,6 @@ aboutDevice SystemAxisCount = row "system.axiscount" 1 1 Never
 abbrev pub about : Setting → About
 about (OfAxis s) = aboutAxis s
 about (OfDevice s) = aboutDevice s
-
--- what the table says of a setting as one number, as the code keeps it: a sum of 1 where it is read with access 2, 2 where it is written
--- with access 2, 4 where it is written at rest and 8 where it is never written
-abbrev writingNumber : Writing → ℕ
-writingNumber Always = 0
-writingNumber AtRest = 4
-writingNumber Never = 8
-
-abbrev pub ruleOf : About → ℕ
-ruleOf a = (a .get - 1) + 2 * (a .set - 1) + writingNumber (a .writing)
 
 -- every setting, in the table's order
 unfoldable pub axisSettings : List AxisSetting

@@ -1,7 +1,8 @@
 // The table of settings: who may read and write each, and when it may be written.
 // The rules are in specs/Settings.antt.
 ghost use mathlib.Core.Path.{_≡_};
-ghost use Rattle.command.specs.Settings.{aboutAxis, aboutDevice, about, ruleOf, readOnly, onlyAtRest};
+ghost use Rattle.command.specs.Settings.{aboutAxis, aboutDevice, about, readOnly, onlyAtRest};
+ghost use Rattle.command.specs.Sums.{ruleOf};
 use crate::AxisSetting;
 use crate::DeviceSetting;
 use crate::Setting;

@@ -1,7 +1,8 @@
 // What is constant of a command: document 01's table of commands as data, one row a kind, looked up and not matched.
 // specs/Commands.antt has the same table, with the words of each row.
 ghost use mathlib.Core.Path.{_≡_};
-ghost use Rattle.command.specs.Commands.{useOf, dataOf, kindOf, kindAt, demandsBy, demandsOf, isWords};
+ghost use Rattle.command.specs.Commands.{kindAt, demandsBy, demandsOf, isWords};
+ghost use Rattle.command.specs.Sums.{useAt, dataAt, kindOf};
 use crate::Command;
 use crate::Setting;
 use crate::forms::Form;
@@ -136,7 +137,7 @@ const KINDS: [u8; 21] = [
 
 impl Use {
     fn of(k: u8) -> Use
-        ensures { λ r. ⌜ r ≡ useOf k ⌝ }
+        ensures { λ r. ⌜ r ≡ useAt k ⌝ }
     {
         match k {
             0 => Use::Apart,
@@ -148,7 +149,7 @@ impl Use {
 
 impl Data {
     fn of(k: u8) -> Data
-        ensures { λ r. ⌜ r ≡ dataOf k ⌝ }
+        ensures { λ r. ⌜ r ≡ dataAt k ⌝ }
     {
         match k {
             0 => Data::Nought,

@@ -33,13 +33,6 @@ pub enum Setting {
     OfDevice(DeviceSetting),
 }
 
-// When a setting may be written: always, with its axis at rest, or never ("read only").
-pub enum Writing {
-    Always,
-    AtRest,
-    Never,
-}
-
 // Where a move is to end: `move abs`, `rel`, `min`, `max`, `stored`.
 pub enum Target {
     Abs(Position),

@@ -3,7 +3,8 @@
 use mathlib.Core.Path.{refl}
 use Rattle.laws.proofs.Each.{none, more}
 use Rattle.laws.proofs.Arms.{arm}
-use Rattle.command.specs.Settings.{aboutAxis, ruleOf}
+use Rattle.command.specs.Settings.{aboutAxis}
+use Rattle.command.specs.Sums.{ruleOf}
 use Rattle.command.proofs.AxisSetting.{enum}
 use borrow.Author.Needs.{needs}
 use Rattle.command.proofs.AxisSetting.rule.Statement.{statement}

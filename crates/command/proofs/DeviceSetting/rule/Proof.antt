@@ -3,7 +3,8 @@
 use mathlib.Core.Path.{refl}
 use Rattle.laws.proofs.Each.{none, more}
 use Rattle.laws.proofs.Arms.{arm}
-use Rattle.command.specs.Settings.{aboutDevice, ruleOf}
+use Rattle.command.specs.Settings.{aboutDevice}
+use Rattle.command.specs.Sums.{ruleOf}
 use Rattle.command.proofs.DeviceSetting.{enum}
 use Rattle.command.proofs.DeviceSetting.rule.Statement.{statement}
 use Rattle.command.proofs.DeviceSetting.rule.Tie as tie
