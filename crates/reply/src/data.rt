@@ -19,7 +19,7 @@ use laws::NOACCESS;
 use laws::PARKED;
 use laws::STATUSBUSY;
 use units::lesser;
-use words::Next;
+use words::Word;
 
 // "first 17 words": one, and these behind it.
 const MORE_WORDS: usize = 17 - 1;
@@ -83,17 +83,14 @@ fn put_more(buf: &mut [u8], at: usize, s: &[u8], from: usize) -> usize
     let mut place = from;
     let mut left: usize = MORE_WORDS;
     while 0 < left {
-        match words::next_word(s, place) {
-            Next::End => {
-                return next;
-            }
-            Next::Word { start, end } => {
-                let gap = put_byte(buf, next, b' ');
-                next = put_text(buf, gap, &s[start..end]);
-                place = end;
-                left -= 1;
-            }
+        let Word { start, end } = words::word_at(s, place);
+        if start == end {
+            return next;
         }
+        let gap = put_byte(buf, next, b' ');
+        next = put_text(buf, gap, &s[start..end]);
+        place = end;
+        left -= 1;
     }
     next
 }
@@ -102,11 +99,10 @@ fn put_more(buf: &mut [u8], at: usize, s: &[u8], from: usize) -> usize
 pub(crate) fn put_echo(buf: &mut [u8], at: usize, s: &[u8], from: usize) -> usize
     ensures { λ r. ⌜ Wrote (now (buf .entry)) at (echoed (cut (drop from (now (s .entry))))) (now (buf .exit)) r ⌝ }
 {
-    match words::next_word(s, from) {
-        Next::End => put_byte(buf, at, b'0'),
-        Next::Word { start, end } => {
-            let next = put_text(buf, at, &s[start..end]);
-            put_more(buf, next, s, end)
-        }
+    let Word { start, end } = words::word_at(s, from);
+    if start == end {
+        return put_byte(buf, at, b'0');
     }
+    let next = put_text(buf, at, &s[start..end]);
+    put_more(buf, next, s, end)
 }

@@ -1,4 +1,4 @@
--- How `cut` goes byte by byte; and the first word from a place on, with the words behind it, as `next_word` and `word_at` find it.
+-- How `cut` goes byte by byte; and the first word from a place on, with the words behind it, as `word_at` finds it.
 -- Assumes nothing.
 use mathlib.Core.Path.{_≡_, refl, sym, ap, _∙_}
 use mathlib.Core.Logic.{⊎-elim}
@@ -13,11 +13,9 @@ use lib.Seq.{drop-drop, drop-cons, getD-drop}
 use Rattle.laws.specs.Lists.{span}
 use Rattle.laws.proofs.Order.{lt-or-le, eq-or-ne}
 use Rattle.laws.proofs.Span.{span-yes, span-not, span-none, span-le}
-use Rattle.words.specs.Cutting.{isSpace, noSpace, begins, grow, cut, startOf, endOf, nextOf, wordAt, headWord, tailWords, pastOf, pastMany}
-use Rattle.words.specs.declared.Next.{Next}
-use Rattle.words.specs.declared.Next.the-variants.{Word, End}
-use Rattle.words.specs.declared.Word.{Word as Place}
-use Rattle.words.proofs.Space.{space-yes, space-not, other-yes, other-not, next-end, next-word, at-end, at-word}
+use Rattle.words.specs.Cutting.{isSpace, noSpace, begins, grow, cut, startOf, endOf, wordAt, headWord, tailWords, pastOf, pastMany}
+use Rattle.words.specs.declared.Word.{Word}
+use Rattle.words.proofs.Space.{space-yes, space-not, other-yes, other-not, at-end, at-word}
 
 -- ---- the steps of `cut`
 pub cut-space : (s : List ℕ) → cut (32 ∷ s) ≡ cut s
@@ -100,35 +98,6 @@ head-at s at {a} p h =
 none-of : (s : List ℕ) (at : ℕ) → length s ≤ startOf s at → cut (drop at s) ≡ []
 none-of s at h = sym (skip-at s at) ∙ ap cut (drop-of-length-le s h) ∙ cut-none
 
--- ---- what the answer r of `next_word` says
-module _ (s : List ℕ) (at : ℕ) {r : Next} (q : r ≡ nextOf s at) where
-  pub found-word : (a e : ℕ) → r ≡ Word a e → Part s at a e
-  found-word a e h =
-      ⊎-elim (λ l. let n = next-word s at (startOf s at) refl l in
-      let p : a ≡ startOf s at = cc in
-      part-of s at a e p (rw p (cc)) (rw p l))
-      (λ l. let z : _≡_ {A = ℕ} 0 1 = cc (next-end s at (startOf s at) refl l) in absurd (omega arith))
-      (lt-or-le (startOf s at) (length s))
-
-  pub found-end : r ≡ End → cut (drop at s) ≡ []
-  found-end h =
-      ⊎-elim (λ l. let z : _≡_ {A = ℕ} 0 1 = cc (next-word s at (startOf s at) refl l) in absurd (omega arith))
-      (λ l. none-of s at l)
-      (lt-or-le (startOf s at) (length s))
-
-  pub head-none : r ≡ End → [] ≡ headWord (cut (drop at s))
-  unfolding headWord
-  head-none h = rw (found-end h)
-
-  module _ (a e : ℕ) (h : r ≡ Word a e) where
-    pub head-some : take (e - a) (drop a s) ≡ headWord (cut (drop at s))
-    unfolding headWord
-    head-some = rw (found-word a e h .words)
-
-    pub tail-some : cut (drop e s) ≡ tailWords (cut (drop at s))
-    unfolding tailWords
-    tail-some = rw (found-word a e h .words)
-
 -- no word is empty, so an empty first word says that there is none
 grown : (c : ℕ) (ws : List (List ℕ)) → length (headWord (grow c ws)) ≡ 0 → ⊥
 unfolding grow headWord
@@ -169,7 +138,7 @@ module _ (s : List ℕ) (at : ℕ) {a : ℕ} (q : a ≡ startOf s at) where
   left-some l = rw (part-of s at a (endOf s a) q refl l .words)
 
 -- ---- what the answer w of `word_at` says
-record Stands (s : List ℕ) (at : ℕ) (w : Place) : Type 0 where
+record Stands (s : List ℕ) (at : ℕ) (w : Word) : Type 0 where
   whole : w .start ≤ w .end
   within : w .end ≤ length s
   head : take (w .end - w .start) (drop (w .start) s) ≡ headWord (cut (drop at s))
@@ -194,7 +163,7 @@ stands-some s at l =
 stands : (s : List ℕ) (at : ℕ) → Stands s at (wordAt s at)
 stands s at = ⊎-elim (stands-some s at) (stands-none s at) (lt-or-le (startOf s at) (length s))
 
-module _ (s : List ℕ) (at : ℕ) {w : Place} (q : w ≡ wordAt s at) where
+module _ (s : List ℕ) (at : ℕ) {w : Word} (q : w ≡ wordAt s at) where
   pub word-whole : w .start ≤ w .end
   word-whole = rw q (stands s at .whole)
 

@@ -1,4 +1,4 @@
--- The tests for a space, and the two answers of `next_word` and of `word_at`.
+-- The tests for a space, and the two answers of `word_at`.
 -- Assumes nothing.
 use mathlib.Core.Path.{_≡_}
 use mathlib.Core.Bool.{true, false}
@@ -7,8 +7,7 @@ use Prim.Native.Nat.{ℕ, _+_, _≤_, _<_}
 use lib.ListN.{length, drop}
 use borrow.Author.Tests.{eq-eqb, ne-eqb, lt-ltb, le-ltb}
 use Rattle.laws.specs.Lists.{span}
-use Rattle.words.specs.Cutting.{isSpace, noSpace, nextOf, wordAt}
-use Rattle.words.specs.declared.Next.the-variants.{Word, End}
+use Rattle.words.specs.Cutting.{isSpace, noSpace, wordAt}
 
 pub space-yes : (c : ℕ) → c ≡ 32 → isSpace c ≡ true
 unfolding isSpace
@@ -26,16 +25,8 @@ pub other-not : (c : ℕ) → c ≡ 32 → noSpace c ≡ false
 unfolding noSpace
 other-not c h = rw (eq-eqb c 32 h)
 
--- The two answers of `next_word` and of `word_at`, at the place a where the word may start.
+-- The two answers of `word_at`, at the place a where the word may start.
 module _ (s : List ℕ) (at a : ℕ) (e : a ≡ at + span isSpace (drop at s)) where
-  pub next-end : length s ≤ a → nextOf s at ≡ End
-  unfolding nextOf
-  next-end h = rw (← e, le-ltb a (length s) h)
-
-  pub next-word : a < length s → nextOf s at ≡ Word a (a + span noSpace (drop a s))
-  unfolding nextOf
-  next-word h = rw (← e, lt-ltb a (length s) h)
-
   pub at-end : length s ≤ a → wordAt s at ≡ record { start = length s; end = length s }
   unfolding wordAt
   at-end h = rw (← e, le-ltb a (length s) h)

@@ -7,8 +7,6 @@ use lib.Dec.{eqb, ltb}
 use lib.ListN.{length, drop}
 use Rattle.laws.specs.Text.{space}
 use Rattle.laws.specs.Lists.{span}
-use Rattle.words.specs.declared.Next.{Next}
-use Rattle.words.specs.declared.Next.the-variants as Next
 use Rattle.words.specs.declared.Word.{Word}
 
 unfoldable pub isSpace : ℕ → Bool
@@ -48,10 +46,6 @@ startOf s at = at + span isSpace (drop at s)
 
 abbrev pub endOf : List ℕ → ℕ → ℕ
 endOf s a = a + span noSpace (drop a s)
-
--- the first word from `at` on
-unfoldable pub nextOf : List ℕ → ℕ → Next
-nextOf s at = cond (ltb (startOf s at) (length s)) (Next.Word (startOf s at) (endOf s (startOf s at))) Next.End
 
 -- where the first word from `at` on stands, or the end of the text where there is none
 unfoldable pub wordAt : List ℕ → ℕ → Word

@@ -3,18 +3,13 @@
 ghost use mathlib.Core.Path.{_≡_};
 ghost use lib.ListN.{drop};
 ghost use Rattle.laws.specs.Text.{same};
-ghost use Rattle.words.specs.Cutting.{startOf, endOf, nextOf, wordAt, cut, headWord, tailWords, pastOf};
+ghost use Rattle.words.specs.Cutting.{startOf, endOf, wordAt, cut, headWord, tailWords, pastOf};
 ghost use Rattle.words.specs.Find.{index};
 
 // Where a word stands: from start to before end. Where there is none, both are the end of the text.
 pub struct Word {
     pub start: usize,
     pub end: usize,
-}
-
-pub enum Next {
-    Word { start: usize, end: usize },
-    End,
 }
 
 // The first place from at on that has no space.
@@ -58,20 +53,6 @@ pub fn word_at(s: &[u8], at: usize) -> Word
     }
     let end = word_end(s, start);
     Word { start, end }
-}
-
-// The first word from at on.
-pub fn next_word(s: &[u8], at: usize) -> Next
-    ensures { λ r. ⌜ r ≡ nextOf (now (s .entry)) at ⌝ }
-{
-    let start = start_of(s, at);
-    if s.len() <= start {
-        return Next::End;
-    }
-    Next::Word {
-        start,
-        end: word_end(s, start),
-    }
 }
 
 // The first word from at on, or nothing where there is none.

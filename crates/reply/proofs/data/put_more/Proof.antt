@@ -4,7 +4,7 @@ use native.Mathlib.Omega.{arith}
 use lib.ListN.{take, drop}
 use Rattle.laws.proofs.Spaced.{trail}
 use Rattle.words.specs.Cutting.{cut}
-use Rattle.words.proofs.Cut.{Part, found-word, found-end}
+use Rattle.words.proofs.Cut.{word-whole, word-within, word-empty, word-full}
 use Rattle.buffer.proofs.Wrote.{_▸_, wrote-length}
 use Rattle.reply.proofs.Writing.{Writing, writing-first, writing-end}
 use Rattle.reply.proofs.Lists.{echo-turn, echo-end, echo-full}
@@ -19,45 +19,36 @@ Inv-loop buf₀ at s from next₀ place₀ left₀ buf next place left =
 abbrev μ-loop : tie.MeasureT-loop
 μ-loop buf₀ at s from next₀ place₀ left₀ buf next place left = left
 
--- what is known once a word is found: where it is, and what the words from `place` on are
-abbrev Found : tie.After-known-told Inv-loop μ-loop → Type 0
-Found c =
-    let loop = c .before .before .before .before .before in
-    Part (loop .before .before .before .args .s .now) (loop .loop .place) (c .before .start .given .0 .0) (c .before .start .given .0 .1 .0)
-
-the-word : (c : tie.After-known-told Inv-loop μ-loop) → Found c
-the-word c = found-word _ _ (c .before .before .before .next-word .ensures) _ _ (search)
-
 loop-holds : tie.Need-loop-holds Inv-loop μ-loop
 loop-holds c = writing-first _ _ _
 
 same-length : tie.Need-same-length Inv-loop μ-loop
-same-length c = wrote-length (c .before .before .before .before .loop .inv .wrote)
+same-length c = wrote-length (c .before .before .before .loop .inv .wrote)
 
 returns : tie.Need-returns Inv-loop μ-loop
 returns c =
-    let next-word = c .before .before in
-    let loop = next-word .before .before in
-    let none = found-end _ (loop .loop .place) (next-word .next-word .ensures) (search) in
+    let loop = c .before .before .before in
+    let none = word-empty _ (loop .loop .place) (c .before .word-at .ensures) (c .if1 .taken) in
     writing-end (rw (echo-end (loop .loop .left) _ none) at (loop .loop .inv))
 
 sub-put-text : tie.Need-sub-put-text Inv-loop μ-loop
-sub-put-text c = omega (arith, the-word (c .before .before .before .before .before))
+sub-put-text c = word-whole _ _ (c .before .before .before .before .before .before .word-at .ensures)
 
 part-put-text-start : tie.Need-part-put-text-start Inv-loop μ-loop
-part-put-text-start c = omega (arith, the-word (c .before .before .before .before .before))
+part-put-text-start c = word-whole _ _ (c .before .before .before .before .before .before .word-at .ensures)
 
 part-put-text-end : tie.Need-part-put-text-end Inv-loop μ-loop
-part-put-text-end c = omega (arith, the-word (c .before .before .before .before .before))
+part-put-text-end c = word-within _ _ (c .before .before .before .before .before .before .word-at .ensures)
 
 loop-again : tie.Need-loop-again Inv-loop μ-loop
 loop-again c =
     let written = c .before .before in
     let gap = written .before .before .before .before .before in
     let word = gap .before .before in
-    let turn = word .before .before .before .before in
-    echo-turn (turn .before .loop .left) (turn .loop-test .taken) (the-word word .words) (turn .before .loop .inv)
-    (gap .put-byte .ensures ▸ written .put-text .ensures)
+    let turn = word .before .before in
+    let loop = turn .before in
+    let words = word-full _ (loop .loop .place) (word .before .word-at .ensures) (word .if1 .left) in
+    echo-turn (loop .loop .left) (turn .loop-test .taken) words (loop .loop .inv) (gap .put-byte .ensures ▸ written .put-text .ensures)
 
 same-length-2 : tie.Need-same-length-2 Inv-loop μ-loop
 same-length-2 c = wrote-length (c .before .loop .inv .wrote)
@@ -71,6 +62,6 @@ returns-2 c =
 pub put-more-spec : {M : Type 1} → statement M
 put-more-spec =
     tie.close
-    (tie.spec Inv-loop μ-loop loop-holds (λ c κs. search needs) (λ c. search needs) same-length returns (λ c. search needs)
-    (λ c κs. search needs) sub-put-text part-put-text-start part-put-text-end (λ c κs. search needs) (λ c. search needs)
-    (λ c. search needs) loop-again same-length-2 returns-2)
+    (tie.spec Inv-loop μ-loop loop-holds (λ c κs. search needs) same-length returns (λ c κs. search needs) sub-put-text
+    part-put-text-start part-put-text-end (λ c κs. search needs) (λ c. search needs) (λ c. search needs) loop-again same-length-2
+    returns-2)
