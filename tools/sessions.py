@@ -1,7 +1,10 @@
-# Whole inputs of the bench made from a seed: lines by document 01's grammar in all its freedoms, lines that just miss
-# it, motor reports good and bad, and longer sessions that make sense. session(seed, index) is always the same bytes.
+# Whole inputs of bench and of cable made from a seed: lines by document 01's grammar in all its freedoms, lines that
+# just miss it, motor reports good and bad, and longer sessions that make sense. session(seed, index), for bench, is
+# always the same bytes, and so is cable_session(seed, index), for cable.
 import random
+import re
 
+ENTRY_BYTES = 4096
 FURTHEST = 1000000000
 LOWEST, HIGHEST = -2**31, 2**31 - 1
 
@@ -34,8 +37,22 @@ WORDS = [
 ] + list(SETTINGS)
 
 
+# A line that sets the address, in a spelling that is not odd: its own address word, if any, and the new address.
+SET_ADDRESS = re.compile(
+    rb'^/ *(?:(0x[0-9A-Fa-f]+|\d+) +(?:0 +)?)?set +comm[.]address +(0x[0-9A-Fa-f]+|\d+) *(?::\w\w)?\r?\n', re.M)
+
+
+def value_of(word):
+    """The value of a number without a sign."""
+    return int(word, 16 if b'x' in word else 10)
+
+
 class Maker:
     """One session in the making: its random numbers, its bytes, and the address that the device has by now."""
+
+    AXES = (1, 2)
+    ANY_AXIS = (0, 0, 0, 1, 1, 2, 2, 3)
+    SOURCES = [(1,), (2,)]          # the numbers by which motor reports say where they come from
 
     def __init__(self, seed, index):
         self.dice = random.Random(f'{seed} {index}')
@@ -163,7 +180,15 @@ class Maker:
                              '1.', '+', '-', '01home', '0x1x', '99999999999', '4294967297', '18446744073709551617')
         if self.odd():
             return self.unsigned(self.pick(1, 2, 5, 9, 10, 50, 98, 99))
-        return self.unsigned(self.pick(0, self.address, self.address, self.address))
+        return self.unsigned(self.whom())
+
+    def whom(self):
+        """An address that concerns the device, or all."""
+        return self.pick(0, self.address, self.address, self.address)
+
+    def addressed(self, words):
+        """Whether a line says its address where it need not."""
+        return self.chance(0.5)
 
     def axis_word(self, axis):
         if self.chance(self.oddness / 8):
@@ -176,9 +201,9 @@ class Maker:
         """Address, axis and words with their spaces; an axis of None is left to chance."""
         if axis is None:
             ofdevice = 'parking' in words or 'echo' in words or any(word in DEVICE_SETTINGS for word in words)
-            axis = 0 if ofdevice and self.chance(0.8) else self.pick(0, 0, 0, 1, 1, 2, 2, 3)
+            axis = 0 if ofdevice and self.chance(0.8) else self.pick(*self.ANY_AXIS)
         head = []
-        if axis or self.chance(0.5):
+        if axis or self.addressed(words):
             head.append(self.address_word())
             if axis or self.chance(0.4):
                 head.append(self.axis_word(axis))
@@ -253,8 +278,24 @@ class Maker:
 
     # ---- motor reports
 
+    def axis(self):
+        return self.pick(*self.AXES)
+
+    def scope(self):
+        """All axes or one."""
+        return self.pick(0, *self.AXES)
+
+    def source(self, axis):
+        return (axis,)
+
+    def sources(self, scope):
+        return [source for source in self.SOURCES if scope in (0, source[-1])]
+
     def report(self, axis, kind, p):
-        words = ['R', self.number(axis), self.number(kind), self.number(p)]
+        self.report_from(self.source(axis), kind, p)
+
+    def report_from(self, source, kind, p):
+        words = ['R'] + [self.number(value) for value in (*source, kind, p)]
         if self.chance(self.oddness / 4):
             words = [words[0]] + self.miswording(words[1:])
         text = words[0] + ''.join(self.spaces(1) + word for word in words[1:]) + self.spaces(0)
@@ -273,7 +314,7 @@ class Maker:
         p = self.value(1, 7) if kind == 4 else self.place()
         if self.odd():
             kind = self.pick(0, 1, 2, 3, 4, 5, 6, -1, 255, 256 + 3, HIGHEST)
-        axis = self.pick(0, 3, 4, 5, -1, 257, LOWEST) if self.odd() else self.pick(1, 2)
+        axis = self.pick(0, 3, 4, 5, -1, 257, LOWEST) if self.odd() else self.axis()
         self.report(axis, kind, p)
 
     def place(self):
@@ -286,23 +327,23 @@ class Maker:
 
     def home(self):
         self.line(['home'], 0)
-        for axis in (1, 2):
+        for source in self.sources(0):
             if not self.odd():
-                self.report(axis, 3, self.place())
+                self.report_from(source, 3, self.place())
 
     def moves(self):
-        axis = self.pick(0, 1, 2)
+        axis = self.scope()
         self.line(self.move(), axis)
         for _ in range(self.pick(0, 1, 2)):
-            self.report(axis or self.pick(1, 2), 1, self.place())
+            self.report(axis or self.axis(), 1, self.place())
         self.line(self.pick([], ['stop'], ['estop'], ['get', 'pos'], self.move()), self.pick(0, axis))
         if self.chance(0.7):
-            for each in ([axis] if axis else [1, 2]):
-                self.report(each, 2, self.place())
+            for source in self.sources(axis):
+                self.report_from(source, 2, self.place())
         self.line(['get', 'pos'], self.pick(0, axis))
 
     def limits(self):
-        axis, at = self.pick(0, 1, 2), self.value(-FURTHEST, FURTHEST, 305381)
+        axis, at = self.scope(), self.value(-FURTHEST, FURTHEST, 305381)
         for name in self.pick(['limit.max', 'limit.min'], ['limit.min', 'limit.max'], ['pos', 'limit.min']):
             self.line(['set', name, self.number(at)], axis)
             at += self.pick(0, 0, 1, -1, 1000)
@@ -315,24 +356,24 @@ class Maker:
         self.line(['move', self.pick('min', 'max')], axis)
 
     def stored(self):
-        axis, which = self.pick(0, 1, 2), self.dice.randint(1, 16)
+        axis, which = self.scope(), self.dice.randint(1, 16)
         self.line(['tools', 'storepos', str(which), self.number(self.value(0, 305381, 17))], axis)
         self.line(['tools', 'storepos', str(which)], self.pick(0, axis))
-        self.line(['tools', 'storepos', self.number(which), 'current'], self.pick(0, 1, 2))
+        self.line(['tools', 'storepos', self.number(which), 'current'], self.scope())
         self.line(['tools', 'storepos', self.number(which)], 0)
         self.line(['set', self.pick('limit.min', 'limit.max'), self.number(self.value(0, 305381))], axis)
         self.line(['move', 'stored', self.number(which)], self.pick(0, axis))
 
     def warnings(self):
         for _ in range(self.pick(1, 2, 3, 7, 9)):
-            self.report(self.pick(1, 2), 4, self.dice.randint(1, 7))
-        self.line(['warnings'], self.pick(0, 1, 2))
+            self.report(self.axis(), 4, self.dice.randint(1, 7))
+        self.line(['warnings'], self.scope())
         if self.chance(0.4):
-            self.report(self.pick(1, 2), 5, self.dice.choice(BOUNDS[1:-2]))
-        self.line([], self.pick(0, 1, 2))
-        self.line(['warnings', 'clear'], self.pick(0, 1, 2))
-        self.line(['warnings'], self.pick(0, 1, 2))
-        self.report(self.pick(1, 2), 5, 0)
+            self.report(self.axis(), 5, self.dice.choice(BOUNDS[1:-2]))
+        self.line([], self.scope())
+        self.line(['warnings', 'clear'], self.scope())
+        self.line(['warnings'], self.scope())
+        self.report(self.axis(), 5, 0)
         self.line(['warnings'], 0)
 
     def parking(self):
@@ -350,7 +391,7 @@ class Maker:
         for _ in range(self.pick(1, 2, 3)):
             name = self.pick('driver.dir', 'encoder.index.count')
             setting = ['set', name, self.number(self.value(*SETTINGS[name]))]
-            self.line(self.pick(['get', name], setting), self.pick(0, 1, 2))
+            self.line(self.pick(['get', name], setting), self.scope())
 
     def readdress(self):
         """Another address, asked for with all freedoms, and then one that is sure."""
@@ -369,7 +410,7 @@ class Maker:
     def sweep(self):
         """One setting, got and set at its ends."""
         name = self.setting()
-        axis = self.pick(0, 1, 2) if name in AXIS_SETTINGS else 0
+        axis = self.scope() if name in AXIS_SETTINGS else 0
         for _ in range(self.pick(2, 5)):
             self.line(['set', name, self.number(self.value(*SETTINGS[name]))], axis)
             self.line(['get', name], self.pick(0, axis))
@@ -393,9 +434,68 @@ class Maker:
         self.bytes += b'\n'
 
 
+class CableMaker(Maker):
+    """The same for the cable: four records, so several addresses, and motor reports that name the record first."""
+
+    COUNTS = (2, 1, 4, 3)
+    AXES = (1, 2, 3, 4)
+    ANY_AXIS = (0, 0, 0, 1, 1, 2, 2, 3, 4, 5)
+    SOURCES = [(record, axis) for record, count in enumerate(COUNTS, 1) for axis in range(1, count + 1)]
+
+    def __init__(self, seed, index):
+        super().__init__(seed, index)
+        self.sent = 0               # the address of the last line
+
+    def addresses(self):
+        """Those that the records have by now, as far as lines tell that have nothing odd about them."""
+        now = [1, 2, 1, 9]
+        for sent, value in SET_ADDRESS.findall(self.bytes):
+            if 1 <= value_of(value) <= 99:
+                now = [value_of(value) if value_of(sent or b'0') in (0, own) else own for own in now]
+        return now
+
+    def content(self, words, axis=None):
+        self.sent = 0
+        return super().content(words, axis)
+
+    def whom(self):
+        self.sent = self.pick(0, *self.addresses() * 2)
+        return self.sent
+
+    def addressed(self, words):
+        """A new address is mostly for one old one: records that have come to the same address keep it in common."""
+        return self.chance(0.9 if 'comm.address' in words else 0.5)
+
+    def be_sure(self):
+        """In a plain spelling, another address for those that have one of theirs; now and then it is one of others."""
+        now = self.addresses()
+        new = self.dice.choice(now) if self.chance(0.2) else self.dice.randint(1, 99)
+        self.bytes += b'/%d set comm.address %d\n' % (self.dice.choice(now), new)
+
+    def source(self, axis):
+        """Mostly a record that has the axis; now and then none of the chain, or a number too few or too many."""
+        if self.odd():
+            return self.pick((0, axis), (5, axis), (-1, axis), (257, axis), (LOWEST, axis), (axis,), (1, axis, axis))
+        return self.dice.choice([record for record, _ in self.sources(axis)] or [1, 2, 3, 4]), axis
+
+    def sources(self, scope):
+        """Those of the records that the last line was for."""
+        now = self.addresses()
+        return [source for source in super().sources(scope) if self.sent in (0, now[source[0] - 1])]
+
+
 def session(seed, index):
-    """The whole input of one run of the bench."""
-    maker = Maker(seed, index)
+    """The whole input of one run of bench."""
+    return filled(Maker(seed, index))
+
+
+def cable_session(seed, index):
+    """The whole input of one run of cable."""
+    return filled(CableMaker(seed, index))[:ENTRY_BYTES]
+
+
+def filled(maker):
+    """Scenes that make sense and wild lines, as the dice mix them."""
     sensible = [maker.home, maker.moves, maker.moves, maker.limits, maker.stored, maker.warnings, maker.parking,
                 maker.access, maker.readdress, maker.summing, maker.sweep]
     wild = [maker.anything] * 12 + [maker.any_report] * 4 + [maker.noise, maker.short]

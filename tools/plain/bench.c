@@ -1,68 +1,24 @@
-/* The program `bench` of document 01 over the plain library: reads at most 4,096 bytes of standard input, parts them
-   after each LF, and prints the reply to each line, `silent N`, or `report N`. */
+/* The program `bench` of document 01 over the plain library: one fresh record, address 1, two axes, device id 100. */
 #include "plain.h"
-#include "entry.h"
+#include "session.h"
 
-enum { OUTPUT_BYTES = 65536, ANSWER_BYTES = 128 };
+static struct device device;
 
-static unsigned char output[OUTPUT_BYTES];
-static size_t held;
-
-static void flush(void)
+static int take(const unsigned char *line, size_t length, unsigned char *reply, size_t *written)
 {
-    size_t done = 0;
-    while (done < held) {
-        long count = write(1, output + done, held - done);
-        if (count <= 0)
-            break;
-        done += (size_t)count;
-    }
-    held = 0;
+    return plain_step(&device, line, length, reply, REPLY_BYTES, written);
 }
 
-/* Prints `silent N` or `report N`; both words have six letters. */
-static void say(const char *word, int number)
+static int report(const unsigned char *part, size_t length)
 {
-    unsigned char *to = output + held;
-    for (int i = 0; i < 6; i++)
-        *to++ = (unsigned char)word[i];
-    *to++ = ' ';
-    to = plain_number(to, number);
-    *to++ = '\n';
-    held = (size_t)(to - output);
-}
-
-static void answer(struct device *device, const unsigned char *part, size_t length)
-{
-    int number[3], outcome;
-    size_t written;
-    if (part[0] == 'R') {
-        outcome = plain_read_report(part, length, number);
-        if (outcome == 0)
-            outcome = plain_report(device, number[0], number[1], number[2]);
-        say("report", outcome);
-        return;
-    }
-    outcome = plain_step(device, part, length, output + held, OUTPUT_BYTES - held, &written);
-    if (written == 0)
-        say("silent", outcome);
-    held += written;
+    int number[3], outcome = plain_read_report(part, length, number, 3);
+    return outcome == 0 ? plain_report(&device, number[0], number[1], number[2]) : outcome;
 }
 
 int main(void)
 {
-    static unsigned char entry[ENTRY_BYTES];
-    static struct device device;
-    size_t length = read_entry(entry), at = 0;
     if (plain_fresh(&device, 1, 2, 100) != 0)
         return 1;
-    while (at < length) {
-        size_t part = plain_part(entry + at, length - at);
-        if (OUTPUT_BYTES - held < ANSWER_BYTES)
-            flush();
-        answer(&device, entry + at, part);
-        at += part;
-    }
-    flush();
+    run_session(take, report, REPLY_BYTES);
     return 0;
 }

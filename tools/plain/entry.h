@@ -1,4 +1,4 @@
-/* What the plain programs share: reading standard input until 4,096 bytes or its end, however it arrives.
+/* What all plain programs share: reading standard input until 4,096 bytes or its end, however it arrives.
    The kit's compiler comes without headers, so the two calls of the C library are declared here. */
 #ifndef ENTRY_H
 #define ENTRY_H
@@ -6,6 +6,9 @@
 
 long read(int, void *, size_t);
 long write(int, const void *, size_t);
+
+/* A program's own record, or its chain, takes one line: answers the number; written is the length of the replies. */
+typedef int take_line(const unsigned char *line, size_t length, unsigned char *reply, size_t *written);
 
 static size_t read_entry(unsigned char *entry)
 {

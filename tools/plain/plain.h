@@ -10,6 +10,7 @@ enum {
     STORED_POSITIONS = 16,
     LINE_BYTES = 80,
     REPLY_BYTES = 96,
+    CHAIN_PLACES = 16,
     ENTRY_BYTES = 4096
 };
 
@@ -55,11 +56,17 @@ int plain_fresh(struct device *device, int address, int axiscount, int deviceid)
 int plain_step(struct device *device, const unsigned char *line, size_t length,
                unsigned char *reply, size_t room, size_t *written);
 
+/* Obeys one line on each record of a chain that it concerns, and writes their replies one behind the other, in the
+   order of the chain. Answers 20, 21, 1 to 4, or 5 if it concerns none; else 0, whatever the replies say. */
+int plain_chain(struct device *devices, size_t count, const unsigned char *line, size_t length,
+                unsigned char *reply, size_t room, size_t *written);
+
 /* Takes a motor report; p is the place for kind 4. Answers 0, or 21 or 22 and leaves the record as it is. */
 int plain_report(struct device *device, int axis, int kind, int p);
 
-/* Reads `R axis kind p` into three numbers. Answers 0, or 22 if it is misspelt, over 80 bytes or without a footer. */
-int plain_read_report(const unsigned char *line, size_t length, int number[3]);
+/* Reads `R` and so many numbers: three as `R axis kind p`, four as `R device axis kind p`. Answers 0, or 22 if it is
+   misspelt, over 80 bytes or without a footer. */
+int plain_read_report(const unsigned char *line, size_t length, int *number, int count);
 
 /* The length of the part that begins at bytes: up to and with the first LF, or all that is left. */
 size_t plain_part(const unsigned char *bytes, size_t left);

@@ -15,55 +15,24 @@
      at the end, of all 96 bytes of the buffer.
    A first line that is misspelt, or asks for a record that cannot be, gives `0 0`. */
 #include "plain.h"
-#include "entry.h"
+#include "repeat.h"
 
-enum { HEADER_BYTES = 15 };
+enum { HEAD_BYTES = 15 };
 
-static void home_all(struct device *device, unsigned char *reply)
+static struct device device;
+
+static int make(int axes)
 {
-    static const unsigned char home[] = { '/', 'h', 'o', 'm', 'e', '\n' };
-    size_t written;
-    plain_step(device, home, sizeof home, reply, REPLY_BYTES, &written);
-    for (int axis = 1; axis <= AXIS_PLACES; axis++)
-        plain_report(device, axis, 3, 0);
+    return plain_fresh(&device, 1, axes, 100) == 0;
 }
 
-static unsigned step_often(struct device *device, const unsigned char *line, size_t length,
-                           unsigned char *reply, int repeat)
+static int take(const unsigned char *line, size_t length, unsigned char *reply, size_t *written)
 {
-    unsigned sum = 0;
-    for (int i = 0; i < repeat; i++) {
-        size_t written;
-        sum += (unsigned)plain_step(device, line, length, reply, REPLY_BYTES, &written);
-        sum += (unsigned)written;
-    }
-    for (int i = 0; i < REPLY_BYTES; i++)
-        sum += reply[i];
-    return sum;
-}
-
-static void print(int steps, unsigned sum)
-{
-    unsigned char text[32], *to = plain_number(text, steps);
-    *to++ = ' ';
-    to = plain_number(to, (int)(sum & 0x7fffffff));
-    *to++ = '\n';
-    write(1, text, (size_t)(to - text));
+    return plain_step(&device, line, length, reply, REPLY_BYTES, written);
 }
 
 int main(void)
 {
-    static unsigned char entry[ENTRY_BYTES], reply[REPLY_BYTES];
-    static struct device device;
-    size_t length = read_entry(entry);
-    int number[3];
-    if (length < HEADER_BYTES || plain_read_report(entry, HEADER_BYTES, number) != 0 ||
-        plain_fresh(&device, 1, number[1], 100) != 0) {
-        print(0, 0);
-        return 0;
-    }
-    if (number[2] == 1)
-        home_all(&device, reply);
-    print(number[0], step_often(&device, entry + HEADER_BYTES, length - HEADER_BYTES, reply, number[0]));
+    run_repeat(HEAD_BYTES, make, &device, take, REPLY_BYTES);
     return 0;
 }
