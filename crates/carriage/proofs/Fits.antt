@@ -7,7 +7,7 @@ use mathlib.Core.List.{List, [], _∷_, map}
 use Prim.Native.Nat.{ℕ, zero, suc, _+_, _-_, _≤_, _<_}
 use native.Mathlib.Omega.{arith}
 use lib.IntN.{ℤ, pos, negsuc}
-use lib.ListN.{length, getD, take, drop, length-take, length-map}
+use lib.ListN.{length, getD, take, drop, length-take, length-drop, length-map}
 use borrow.Author.Tests.{eq-eqb, ne-eqb, ltb-false}
 use mir.Syntax.{w32}
 use mir.Val.{SFits}
@@ -34,7 +34,7 @@ use Rattle.command.specs.declared.forms.Form.{Form}
 use Rattle.command.specs.declared.kinds.Data.{Data}
 use Rattle.command.specs.declared.kinds.Data.the-variants as Data
 use Rattle.command.specs.Forms.{formOf}
-use Rattle.command.specs.Commands.{demands, carriesWords, echoOf}
+use Rattle.command.specs.Commands.{demands, carriesWords}
 use Rattle.command.specs.declared.Command.{Command}
 use Rattle.command.specs.Settings.{deviceSettings}
 use Rattle.settings.specs.declared.Settings.{Settings}
@@ -58,7 +58,7 @@ use Rattle.view.specs.View.{valueIn, valuesOf, warningsOf}
 use Rattle.view.specs.declared.Value.{Value}
 use Rattle.view.specs.declared.Value.the-variants as Value
 use Rattle.words.specs.Cutting.{cut}
-use Rattle.line.proofs.Frames.{content-fits}
+use Rattle.line.specs.Reading.{carriedBy}
 use Rattle.line.proofs.Carried.{Carried}
 use Rattle.rules.proofs.GoodStays.{good-count}
 use Rattle.view.specs.Data.{settingData, parkedData, textOf, dataOf}
@@ -219,24 +219,24 @@ module _ (d : Device) (k : ℕ) (g : Good d) (few : d .count ≤ 4) (there : k �
       go false = omega arith
   text-fits ws h f Data.Words = h
 
--- the words that an echo carries are of a content of 78 bytes at most
-echo-short : {es : List (List ℕ)} (c : Command) (l : List ℕ) → Carried l c es → length (echoed es) ≤ 74
-unfolding echoOf
-echo-short c l h = rw (h .words) (go (carriesWords c))
+-- the echo of words that stand in 74 bytes, and of none
+pub echo-short : (c : Command) (s : List ℕ) → (carriesWords c ≡ true → length s ≤ 74) → length (echoed (carriedBy c s)) ≤ 74
+echo-short c s h = go (carriesWords c) h
   where
-    s : List ℕ
-    s = take (h .size) (drop 1 l)
+    go : (t : Bool) → (t ≡ true → length s ≤ 74) → length (echoed (cond t (cut s) [])) ≤ 74
+    go true k = echo-fits s (k refl)
+    go false k = omega (arith, echoed-none)
 
-    short : length s ≤ 78
-    short = rw length-take (omega (arith, content-fits l (h .size) refl (h .frame)))
+pub part-short : (l : List ℕ) (from end : ℕ) → end ≤ from + 74 → length (drop from (take end l)) ≤ 74
+part-short l from end h = rw (length-drop, length-take) (omega (arith, h))
 
-    go : (t : Bool) → length (echoed (cond t (drop 2 (drop (h .skip) (cut s))) [])) ≤ 74
-    go true = echo-fits s (h .skip) short
-    go false = omega (arith, echoed-none)
-
-pub data-fits : (d : Device) (k : ℕ) (c : Command) (es : List (List ℕ)) (l : List ℕ) → good d ≡ true → refusal d k c ≡ 0 → Carried l c es
+pub data-fits : (d : Device) (k : ℕ) (c : Command) (es : List (List ℕ)) → good d ≡ true → refusal d k c ≡ 0 → length (echoed es) ≤ 74
     → length (dataOf d k es c) ≤ 74
 unfolding dataOf badAxis
-data-fits d k c es l g e h =
-    text-fits d k (goodness d g) (good-count d g) (ltb-false (d .count) k (within-count d k c e)) es (echo-short c l h) (formOf c)
-    (demands c .reply)
+data-fits d k c es g e h =
+    text-fits d k (goodness d g) (good-count d g) (ltb-false (d .count) k (within-count d k c e)) es h (formOf c) (demands c .reply)
+
+-- the words that a line carries
+pub line-fits : (d : Device) (k : ℕ) (c : Command) (es : List (List ℕ)) (l : List ℕ) → good d ≡ true → refusal d k c ≡ 0 → Carried l c es
+    → length (dataOf d k es c) ≤ 74
+line-fits d k c es l g e h = data-fits d k c es g e (rw (h .parted) (echo-short c (h .part) (h .short)))

@@ -2,6 +2,7 @@ pub mod Fits
 pub mod Replies
 pub mod Steps
 pub mod Heard
+pub mod ReadOnce
 pub mod Rulings
 pub mod Answers
 pub mod Demands

@@ -1,18 +1,19 @@
--- What a line comes to is answered as the step says; and what holds of a command that meets no refusal.
+-- What a line comes to, and what was read of it, is answered as the step says; and what holds of a command that meets no refusal.
 -- Assumes nothing.
-use mathlib.Core.Path.{_≡_, refl, sym, ap, _∙_}
+use mathlib.Core.Path.{_≡_, refl, sym, ap, subst, _∙_}
 use mathlib.Core.Bool.{Bool, true, false, cond}
 use mathlib.Core.List.{List}
-use Prim.Native.Nat.{ℕ, _≤_}
-use lib.Dec.{eqb, ltb}
+use Prim.Native.Nat.{ℕ, _+_, _≤_}
+use native.Mathlib.Omega.{arith}
+use lib.Dec.{eqb, ltb, leb}
 use lib.ListN.{length, take, drop}
-use borrow.Author.Tests.{eq-eqb, eqb-true, ne-eqb, ltb-true, ltb-false}
+use borrow.Author.Tests.{eq-eqb, eqb-true, ne-eqb, ltb-true, ltb-false, leb-true}
 use Rattle.laws.proofs.Bools.{not-true, clash}
 use Rattle.units.specs.Units.{place}
 use Rattle.words.specs.Cutting.{cut, headWord, tailWords, pastMany}
 use Rattle.command.specs.declared.Command.{Command}
 use Rattle.command.specs.declared.kinds.Demands.{Demands}
-use Rattle.command.specs.Commands.{demands}
+use Rattle.command.specs.Commands.{demands, carriesWords}
 use Rattle.phrase.specs.declared.WordsRead.{WordsRead}
 use Rattle.phrase.specs.declared.WordsRead.the-variants as Words
 use Rattle.phrase.specs.Reading.{readCommand}
@@ -23,16 +24,32 @@ use Rattle.line.specs.declared.Opening.the-variants as Opening
 use Rattle.line.specs.Reading.{axisDigit, axisOf, readLine, carriedBy}
 use Rattle.line.specs.Opening.{openLine, readOn}
 use Rattle.line.proofs.Opened.{opened-read}
-use Rattle.line.proofs.Carried.{Carried, carried-of}
+use Rattle.line.proofs.Carried.{carried-near}
 use Rattle.device.specs.declared.Device.{Device}
 use Rattle.device.specs.Good.{good}
 use Rattle.rules.specs.declared.refusals.Ruled.{Ruled}
 use Rattle.rules.specs.Refusals.{refusal, ruled}
+use Rattle.view.specs.Data.{dataOf}
 use Rattle.carriage.specs.declared.Ruling.{Ruling}
 use Rattle.carriage.specs.declared.Ruling.the-variants.{Silent, Rejected, Accepted}
-use Rattle.carriage.specs.Step.{Stepped, silent, rejected, accepted, obeyed, concerns, respond, step}
+use Rattle.carriage.specs.Step.{Stepped, silent, rejected, accepted, obeyed, concerns, respond}
+use Rattle.carriage.specs.ReadOnce.{endWithin, fitting, overheard}
 use Rattle.carriage.specs.Rulings.{foreign, heardOn, heard, ruleWords, rule}
-use Rattle.carriage.proofs.Steps.{respond-silent, respond-mine, respond-other, step-small, step-bad}
+use Rattle.carriage.proofs.Fits.{echo-short, part-short, data-fits}
+use Rattle.carriage.proofs.Steps.{respond-silent, respond-mine, respond-other, respond-small, respond-bad}
+
+-- a ruling on words of which no more are looked at than fit
+abbrev pub fitted : Ruling → Ruling
+fitted (Silent n) = Silent n
+fitted (Rejected k n) = Rejected k n
+fitted (Accepted k from end c x) = Accepted k from (endWithin from end) c x
+
+within-near : (from end : ℕ) → endWithin from end ≤ from + 74
+within-near from end = go (leb end (from + 74)) refl
+  where
+    go : (t : Bool) → leb end (from + 74) ≡ t → cond t end (from + 74) ≤ from + 74
+    go true e = leb-true end (from + 74) e
+    go false e = omega arith
 
 module _ (d : Device) (l b : List ℕ) where
   abbrev pub answering : Ruling → Stepped
@@ -40,75 +57,70 @@ module _ (d : Device) (l b : List ℕ) where
   answering (Rejected k n) = rejected n d k b
   answering (Accepted k from end c x) = accepted d k (carriedBy c (drop from (take end l))) c b
 
-  -- a command that is accepted meets no refusal, and carries words of the line
-  pub record Sound (k : ℕ) (c : Command) (x : Demands) (es : List (List ℕ)) : Type 0 where
+  -- a command that is accepted meets no refusal, and its words fit
+  pub record Sound (k from end : ℕ) (c : Command) (x : Demands) : Type 0 where
     pub room : 96 ≤ length b
     pub good : good d ≡ true
     pub refused : refusal d k c ≡ 0
     pub demanded : x ≡ demands c
-    pub carried : Carried l c es
+    pub near : carriesWords c ≡ true → end ≤ from + 74
+
+  pub sound-fits : (k from end : ℕ) (c : Command) (x : Demands) → Sound k from end c x
+      → length (dataOf d k (carriedBy c (drop from (take end l))) c) ≤ 74
+  sound-fits k from end c x h =
+      data-fits d k c _ (h .good) (h .refused) (echo-short c (drop from (take end l)) (λ w. part-short l from end (h .near w)))
 
   abbrev pub Fair : Ruling → Type 0
   Fair (Silent n) = Unit
   Fair (Rejected k n) = (96 ≤ length b) × (good d ≡ true)
-  Fair (Accepted k from end c x) = Sound k c x (carriedBy c (drop from (take end l)))
+  Fair (Accepted k from end c x) = Sound k from end c x
 
-  pub record Comes (x : Ruling) : Type 0 where
-    pub answers : answering x ≡ step d l b
+  -- what was read comes to x
+  pub record Comes (r : LineRead) (x : Ruling) : Type 0 where
+    pub answers : answering x ≡ respond d l r b
     pub fair : Fair x
+
+  -- the words of what was read fit
+  abbrev Near : LineRead → Type 0
+  Near (Line.Silent n) = Unit
+  Near (Line.Addressed a k end (Words.Refused m)) = Unit
+  Near (Line.Addressed a k end (Words.Command c from)) = carriesWords c ≡ true → end ≤ from + 74
 
   module _ (room : 96 ≤ length b) (g : good d ≡ true) where
     module _ (a k end : ℕ) (h : concerns d a ≡ true) where
-      command-comes : (c : Command) (from : ℕ) → readLine l ≡ Line.Addressed a k end (Words.Command c from)
-          → Comes (ruleWords d k end (Words.Command c from))
-      unfolding step obeyed
-      command-comes c from q = go (eqb (refusal d k c) 0) refl
+      command-comes : (c : Command) (from : ℕ) → (carriesWords c ≡ true → end ≤ from + 74)
+          → Comes (Line.Addressed a k end (Words.Command c from)) (ruleWords d k end (Words.Command c from))
+      unfolding obeyed
+      command-comes c from near = go (eqb (refusal d k c) 0) refl
         where
           es : List (List ℕ)
           es = carriedBy c (drop from (take end l))
 
-          whole : obeyed d k es c b ≡ step d l b
-          whole = respond-mine d l b room g a k end (Words.Command c from) h ∙ ap (λ (r : LineRead). respond d l r b) (sym q)
+          whole : obeyed d k es c b ≡ respond d l (Line.Addressed a k end (Words.Command c from)) b
+          whole = respond-mine d l b room g a k end (Words.Command c from) h
 
-          go : (t : Bool) → eqb (refusal d k c) 0 ≡ t
-              → Comes (cond t (Accepted k from end c (demands c)) (Rejected k (refusal d k c)))
+          go : (t : Bool) → eqb (refusal d k c) 0 ≡ t → Comes (Line.Addressed a k end (Words.Command c from))
+              (cond t (Accepted k from end c (demands c)) (Rejected k (refusal d k c)))
           go true e = record {
             answers = ap (λ (t : Bool). cond t (accepted d k es c b) (rejected (refusal d k c) d k b)) (sym e) ∙ whole;
-            fair = record {
-              room = room;
-              good = g;
-              refused = eqb-true (refusal d k c) 0 e;
-              demanded = refl;
-              carried = carried-of l a k end from c q;
-            };
+            fair = record { room = room; good = g; refused = eqb-true (refusal d k c) 0 e; demanded = refl; near = near };
           }
           go false e = record {
             answers = ap (λ (t : Bool). cond t (accepted d k es c b) (rejected (refusal d k c) d k b)) (sym e) ∙ whole;
             fair = (room, g);
           }
 
-      words-come : (w : WordsRead) → readLine l ≡ Line.Addressed a k end w → Comes (ruleWords d k end w)
-      unfolding step
-      words-come (Words.Command c from) q = command-comes c from q
-      words-come (Words.Refused m) q = record {
-        answers = respond-mine d l b room g a k end (Words.Refused m) h ∙ ap (λ (r : LineRead). respond d l r b) (sym q);
-        fair = (room, g);
-      }
+      words-come : (w : WordsRead) → Near (Line.Addressed a k end w) → Comes (Line.Addressed a k end w) (ruleWords d k end w)
+      words-come (Words.Command c from) near = command-comes c from near
+      words-come (Words.Refused m) near = record { answers = respond-mine d l b room g a k end (Words.Refused m) h; fair = (room, g) }
 
-    read-comes : (r : LineRead) → readLine l ≡ r → Comes (rule d r)
-    unfolding step
-    read-comes (Line.Silent n) q = record {
-      answers = respond-silent d l b room g n ∙ ap (λ (r : LineRead). respond d l r b) (sym q);
-      fair = tt;
-    }
-    read-comes (Line.Addressed a k end w) q = go (concerns d a) refl
+    read-comes : (r : LineRead) → Near r → Comes r (rule d r)
+    read-comes (Line.Silent n) near = record { answers = respond-silent d l b room g n; fair = tt }
+    read-comes (Line.Addressed a k end w) near = go (concerns d a) refl
       where
-        go : (t : Bool) → concerns d a ≡ t → Comes (cond t (ruleWords d k end w) (Silent 5))
-        go true e = words-come a k end e w q
-        go false e = record {
-          answers = respond-other d l b room g a k end w e ∙ ap (λ (r : LineRead). respond d l r b) (sym q);
-          fair = tt;
-        }
+        go : (t : Bool) → concerns d a ≡ t → Comes (Line.Addressed a k end w) (cond t (ruleWords d k end w) (Silent 5))
+        go true e = words-come a k end e w near
+        go false e = record { answers = respond-other d l b room g a k end w e; fair = tt }
 
     -- a line that is read no further than a foreign address
     foreign-silent : (o : Opening) → foreign (place (d .comm .address .0)) o ≡ true → silent 5 d b ≡ respond d l (readOn l o) b
@@ -132,27 +144,63 @@ module _ (d : Device) (l b : List ℕ) where
         go true = respond-other d l b room g a _ (length s) _ other
         go false = respond-other d l b room g a 0 (length s) _ other
 
-    heard-comes : (o : Opening) → readOn l o ≡ readLine l → Comes (rule d (heardOn (place (d .comm .address .0)) l o))
-    unfolding step
+    line-near : (r : LineRead) → readLine l ≡ r → Near r
+    line-near (Line.Silent n) e = tt
+    line-near (Line.Addressed a k end (Words.Refused m)) e = tt
+    line-near (Line.Addressed a k end (Words.Command c from)) e = carried-near l a k end from c e
+
+    heard-comes : (o : Opening) → readOn l o ≡ readLine l → Comes (readLine l) (rule d (heardOn (place (d .comm .address .0)) l o))
     heard-comes o q = go (foreign (place (d .comm .address .0)) o) refl
       where
-        go : (t : Bool) → foreign (place (d .comm .address .0)) o ≡ t → Comes (rule d (cond t (Line.Silent 5) (readOn l o)))
+        go : (t : Bool) → foreign (place (d .comm .address .0)) o ≡ t → Comes (readLine l) (rule d (cond t (Line.Silent 5) (readOn l o)))
         go true e = record { answers = foreign-silent o e ∙ ap (λ (r : LineRead). respond d l r b) q; fair = tt }
-        go false e = read-comes (readOn l o) (sym q)
+        go false e = subst (λ (r : LineRead). Comes (readLine l) (rule d r)) (sym q) (read-comes (readLine l) (line-near (readLine l) refl))
+
+  -- 20, 21, or what comes of a good record and a buffer with room
+  unless-shut : (r x : LineRead) (f : Ruling → Ruling) → ((n : ℕ) → f (Silent n) ≡ Silent n)
+      → (96 ≤ length b → good d ≡ true → Comes r (f (rule d x)))
+      → Comes r (f (rule d (cond (ltb (length b) 96) (Line.Silent 20) (cond (good d) x (Line.Silent 21)))))
+  unless-shut r x f same heeds = small (ltb (length b) 96) refl
+    where
+      bad : 96 ≤ length b → (t : Bool) → good d ≡ t → Comes r (f (rule d (cond t x (Line.Silent 21))))
+      bad room true g = heeds room g
+      bad room false g = subst (Comes r) (sym (same 21)) (record { answers = respond-bad d l r b room g; fair = tt })
+
+      small : (t : Bool) → ltb (length b) 96 ≡ t → Comes r (f (rule d (cond t (Line.Silent 20) (cond (good d) x (Line.Silent 21)))))
+      small true e = subst (Comes r) (sym (same 20)) (record { answers = respond-small d l r b (ltb-true (length b) 96 e); fair = tt })
+      small false e = bad (ltb-false (length b) 96 e) (good d) refl
 
   -- what is heard of a line comes to its answer
-  pub comes : Comes (rule d (heard (place (d .comm .address .0)) (good d) l (length b)))
-  comes = small (ltb (length b) 96) refl
-    where
-      bad : 96 ≤ length b → (t : Bool) → good d ≡ t
-          → Comes (rule d (cond t (heardOn (place (d .comm .address .0)) l (openLine l)) (Line.Silent 21)))
-      bad room true g = heard-comes room g (openLine l) (opened-read l)
-      bad room false g = record { answers = step-bad d l b room g; fair = tt }
+  pub comes : Comes (readLine l) (rule d (heard (place (d .comm .address .0)) (good d) l (length b)))
+  comes = unless-shut (readLine l) _ (λ x. x) (λ n. refl) (λ room g. heard-comes room g (openLine l) (opened-read l))
 
-      small : (t : Bool) → ltb (length b) 96 ≡ t → Comes (rule d (cond t (Line.Silent 20)
-          (cond (good d) (heardOn (place (d .comm .address .0)) l (openLine l)) (Line.Silent 21))))
-      small true e = record { answers = step-small d l b (ltb-true (length b) 96 e); fair = tt }
-      small false e = bad (ltb-false (length b) 96 e) (good d) refl
+  rule-fitted : (r : LineRead) → rule d (fitting r) ≡ fitted (rule d r)
+  rule-fitted (Line.Silent n) = refl
+  rule-fitted (Line.Addressed a k end (Words.Refused m)) = go (concerns d a)
+    where
+      go : (t : Bool) → cond t (Rejected k m) (Silent 5) ≡ fitted (cond t (Rejected k m) (Silent 5))
+      go true = refl
+      go false = refl
+  rule-fitted (Line.Addressed a k end (Words.Command c from)) = go (concerns d a) (eqb (refusal d k c) 0)
+    where
+      n : ℕ
+      n = refusal d k c
+
+      go : (t u : Bool) → cond t (cond u (Accepted k from (endWithin from end) c (demands c)) (Rejected k n)) (Silent 5)
+          ≡ fitted (cond t (cond u (Accepted k from end c (demands c)) (Rejected k n)) (Silent 5))
+      go true true = refl
+      go true false = refl
+      go false u = refl
+
+  fitting-near : (r : LineRead) → Near (fitting r)
+  fitting-near (Line.Silent n) = tt
+  fitting-near (Line.Addressed a k end (Words.Refused m)) = tt
+  fitting-near (Line.Addressed a k end (Words.Command c from)) = λ w. within-near from end
+
+  -- and so does what is heard of what was read
+  pub comes-once : (r : LineRead) → Comes (fitting r) (fitted (rule d (overheard (good d) r (length b))))
+  comes-once r = unless-shut (fitting r) r fitted (λ n. refl)
+      (λ room g. subst (Comes (fitting r)) (rule-fitted r) (read-comes room g (fitting r) (fitting-near r)))
 
 -- the reader's command, where it meets no refusal, and where it meets one
 module _ (d : Device) (k end from : ℕ) (c : Command) {w : WordsRead} (e : w ≡ Words.Command c from) where

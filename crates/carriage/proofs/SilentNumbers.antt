@@ -102,7 +102,7 @@ silence-number d l b =
     first-applies Silence (more (λ e. no-room) (more (λ e. bad-state) (more (unread-silence (every-line l)) (more (λ e. not-mine) none))))
 
 -- ---- a reply has bytes
-reply-some : (d : Device) (k : ℕ) (ok : Bool) (words : List ℕ) → length (replyOf d k ok words) ≡ 0 → ⊥
+pub reply-some : (d : Device) (k : ℕ) (ok : Bool) (words : List ℕ) → length (replyOf d k ok words) ≡ 0 → ⊥
 unfolding replyOf reply text
 reply-some d k ok words e = omega arith
 

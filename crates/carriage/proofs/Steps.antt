@@ -9,11 +9,12 @@ use lib.ListN.{length}
 use borrow.Author.Tests.{lt-ltb, le-ltb}
 use Rattle.laws.specs.Refusals.{firstOf}
 use Rattle.phrase.specs.declared.WordsRead.{WordsRead}
+use Rattle.line.specs.declared.LineRead.{LineRead}
 use Rattle.line.specs.declared.LineRead.the-variants.{Silent, Addressed}
 use Rattle.device.specs.declared.Device.{Device}
 use Rattle.device.specs.Good.{good}
 use Rattle.carriage.specs.declared.Answer.{Answer}
-use Rattle.carriage.specs.Step.{Stepped, Gives, silent, concerns, addressed, silence, respond, step}
+use Rattle.carriage.specs.Step.{Stepped, Gives, silent, concerns, addressed, silence, respond}
 
 pub gives-as : {s t : Stepped} {r : Answer} {c : List ℕ} → s ≡ t → Gives s r c → Gives t r c
 gives-as {r = r} {c = c} e g = subst (λ (x : Stepped). Gives x r c) e g
@@ -44,11 +45,11 @@ module _ (d : Device) (l b : List ℕ) (room : 96 ≤ length b) (g : good d ≡ 
     respond-other h = rw (le-ltb (length b) 96 room, g, h)
 
 -- no room, or a record that is not good
-module _ (d : Device) (l b : List ℕ) where
-  pub step-small : length b < 96 → silent 20 d b ≡ step d l b
-  unfolding step respond silence firstOf
-  step-small h = rw (lt-ltb (length b) 96 h)
+module _ (d : Device) (l : List ℕ) (r : LineRead) (b : List ℕ) where
+  pub respond-small : length b < 96 → silent 20 d b ≡ respond d l r b
+  unfolding respond silence firstOf
+  respond-small h = rw (lt-ltb (length b) 96 h)
 
-  pub step-bad : 96 ≤ length b → good d ≡ false → silent 21 d b ≡ step d l b
-  unfolding step respond silence firstOf
-  step-bad room h = rw (le-ltb (length b) 96 room, h)
+  pub respond-bad : 96 ≤ length b → good d ≡ false → silent 21 d b ≡ respond d l r b
+  unfolding respond silence firstOf
+  respond-bad room h = rw (le-ltb (length b) 96 room, h)

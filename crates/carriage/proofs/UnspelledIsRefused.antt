@@ -11,6 +11,7 @@ use Rattle.laws.proofs.Order.{lt-or-le}
 use Rattle.phrase.proofs.WordsNumbered.{Misspelt}
 use Rattle.phrase.proofs.WordsNumbered as Words
 use Rattle.phrase.specs.declared.WordsRead.the-variants as WordsRead
+use Rattle.line.specs.Reading.{readLine}
 use Rattle.line.specs.declared.LineRead.{LineRead}
 use Rattle.line.specs.declared.LineRead.the-variants.{Addressed}
 use Rattle.line.specs.Spelling.{Asked, Line}
@@ -19,7 +20,7 @@ use Rattle.line.proofs.EveryLine as Frame
 use Rattle.device.specs.declared.Device.{Device}
 use Rattle.device.specs.Good.{good}
 use Rattle.carriage.specs.Step.{Stepped, silent, written, rejected, concerns, respond, step}
-use Rattle.carriage.proofs.Steps.{respond-silent, respond-mine, respond-other, step-small, step-bad}
+use Rattle.carriage.proofs.Steps.{respond-silent, respond-mine, respond-other, respond-small, respond-bad}
 
 -- the numbers, in the table's order
 pub data Unspelled : ℕ → Type 0 where
@@ -76,8 +77,9 @@ module _ {l : List ℕ} (d : Device) (b : List ℕ) where
   pub unspelled-is-refused : ((a : Asked) → Line l a → ⊥) → Refused d (step d l b)
   unfolding step
   unspelled-is-refused unwritten =
-      ⊎-elim (λ small. answers (step-small d l b small) (quiet d b no-room)) (λ room. go room (good d) refl) (lt-or-le (length b) 96)
+      ⊎-elim (λ small. answers (respond-small d l (readLine l) b small) (quiet d b no-room)) (λ room. go room (good d) refl)
+      (lt-or-le (length b) 96)
     where
       go : 96 ≤ length b → (t : Bool) → good d ≡ t → Refused d (step d l b)
       go room true g = heard-refused room g unwritten (every-line l)
-      go room false g = answers (step-bad d l b room g) (quiet d b bad-state)
+      go room false g = answers (respond-bad d l (readLine l) b room g) (quiet d b bad-state)

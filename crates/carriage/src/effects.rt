@@ -1,5 +1,5 @@
-// What each command does to the record, where it is accepted. No other crate can call these: a command is obeyed by `step`, which
-// asks first whether the record is good and whether the command is refused.
+// What each command does to the record, where it is accepted. No other crate can call these: a command is obeyed by `step` and `respond`,
+// which ask first whether the record is good and whether the command is refused.
 ghost use mathlib.Core.Path.{_≡_};
 ghost use Rattle.axis.specs.Commands.{axisAfter};
 ghost use Rattle.device.specs.Record.{put as putOf, withParked, onAxes};

@@ -7,6 +7,7 @@ ghost use Rattle.reply.specs.Reply.{longestReply, reply as replyText};
 ghost use Rattle.reply.specs.Told.{toldText};
 ghost use Rattle.carriage.specs.Report.{report as reportOf};
 ghost use Rattle.carriage.specs.Step.{Replied, Gives, concerns as concernsOf, step as stepOf};
+ghost use Rattle.carriage.specs.ReadOnce.{endWithin, overheard, respondTo};
 ghost use Rattle.carriage.specs.Rulings.{foreign as foreignTo, heard, headingOf, ruleWords, rule as ruleOf};
 use crate::effects::next;
 use command::Command;
@@ -27,6 +28,9 @@ use reply::put_head;
 use reply::told::Told;
 use reply::told::put_told;
 use units::Number;
+
+// As many bytes of words as every reply has room for.
+const MOST_WORDS: usize = 74;
 
 // The answer to a line: the number, the reply's length, and the next record.
 pub struct Answer {
@@ -87,7 +91,7 @@ fn hear(own: u64, good: bool, line: &[u8], room: usize) -> LineRead
 }
 
 // Is it sent to all, or to this device?
-fn concerns(d: Device, address: u64) -> bool
+pub fn concerns(d: Device, address: u64) -> bool
     ensures { λ r. ⌜ r ≡ concernsOf d address ⌝ }
 {
     let own = d.comm.address.place() as u64;
@@ -160,6 +164,60 @@ pub fn step(mut d: Device, line: &[u8], reply: &mut [u8]) -> Answer
         Ruling::Accepted(k, from, end, c, x) => {
             let shown = x.reply;
             let told = view::data::told(d, k, c.form(), shown, from, end);
+            if !x.shows {
+                d = next(d, k, c);
+            }
+            length = put_reply(heading_of(d, k, true), told, line, reply);
+        }
+    }
+    Answer {
+        number,
+        length,
+        next: d,
+    }
+}
+
+// What a device hears of what was read: 20 or 21 where there is no room for a reply, or its record is not good.
+fn overhear(good: bool, r: LineRead, rest: usize) -> LineRead
+    ensures { λ x. ⌜ x ≡ overheard good r rest ⌝ }
+{
+    if rest < LONGEST_REPLY {
+        return LineRead::Silent(NOROOM);
+    }
+    if good { r } else { LineRead::Silent(BADSTATE) }
+}
+
+// The end of words that begin at `from`: no more of them are looked at than a reply has room for.
+fn end_within(from: usize, end: usize) -> usize
+    ensures { λ r. ⌜ r ≡ endWithin from end ⌝ }
+{
+    if end < MOST_WORDS {
+        return end;
+    }
+    if end - MOST_WORDS <= from {
+        return end;
+    }
+    from + MOST_WORDS
+}
+
+// What was read of a line makes of a record and a buffer, as `step` does: for a line that is read once for several records.
+pub fn respond(mut d: Device, r: LineRead, line: &[u8], reply: &mut [u8]) -> Answer
+    ensures { λ a. ⌜ Gives (respondTo d (now (line .entry)) r (now (reply .entry))) a (now (reply .exit)) ⌝ }
+{
+    let good = d.good();
+    let mut number = ACCEPTED;
+    let mut length: usize = 0;
+    match rule(d, overhear(good, r, reply.len())) {
+        Ruling::Silent(n) => {
+            number = n;
+        }
+        Ruling::Rejected(k, n) => {
+            number = n;
+            length = put_reply(heading_of(d, k, false), Told::Name(number), line, reply);
+        }
+        Ruling::Accepted(k, from, end, c, x) => {
+            let shown = x.reply;
+            let told = view::data::told(d, k, c.form(), shown, from, end_within(from, end));
             if !x.shows {
                 d = next(d, k, c);
             }

@@ -1,4 +1,4 @@
--- What a part is, by its first byte; and a reply's buffer that is printed.
+-- What a part is, by its first byte; a reply's buffer that is printed; and that a name and a number of two digits are short.
 -- Assumes nothing.
 use mathlib.Core.Path.{_≡_, refl, sym, _∙_}
 use mathlib.Core.Logic.{⊎-elim}
@@ -7,11 +7,12 @@ use mathlib.Core.List.{List, [], _∷_}
 use Prim.Native.Nat.{ℕ, _≤_, _<_, min}
 use native.Mathlib.Omega.{arith}
 use lib.Dec.{eqb}
-use lib.ListN.{length, getD, take}
+use lib.ListN.{length, getD, take, length-append}
 use lib.Seq.{take-all}
 use borrow.Author.Tests.{eq-eqb, ne-eqb}
 use Rattle.laws.specs.Text.{text, same}
 use Rattle.laws.proofs.Order.{lt-or-le}
+use Rattle.numbers.proofs.Decimal.{digits-length}
 use Rattle.buffer.specs.Wrote.{Wrote}
 use Rattle.input.specs.Prints.{isReport, told, answered}
 
@@ -36,8 +37,8 @@ module _ (p : List ℕ) where
       go [] h = absurd (h refl)
       go (c ∷ p) h = both (eqb c 82)
 
--- as many bytes as there are
-pub first-bytes : (n m : ℕ) (s : List ℕ) → n ≡ min m (length s) → take n s ≡ take m s
+-- as many as there are
+pub first-bytes : {X : Type 0} (n m : ℕ) (s : List X) → n ≡ min m (length s) → take n s ≡ take m s
 first-bytes n m s e =
     ⊎-elim (λ (h : length s < m). take-all n s (omega arith) ∙ sym (take-all m s (omega arith)))
     (λ (h : m ≤ length s). let z : n ≡ m = omega arith in rw z)
@@ -52,3 +53,7 @@ module _ (number long : ℕ) (s : List ℕ) {b o : List ℕ} {at r : ℕ} where
       → Wrote b at (answered number long s) o r
   unfolding answered
   answer-reply h {n} e w = rw (ne-eqb long 0 h, ← first-bytes n long s e) w
+
+pub told-short : (name : List ℕ) (n : ℕ) → length name ≤ 7 → n < 100 → length (told name n) ≤ 96
+unfolding told text
+told-short name n h k = rw (length-append, length-append) (omega (arith, digits-length 1 n k))

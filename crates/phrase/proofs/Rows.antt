@@ -2,11 +2,14 @@
 -- Assumes nothing.
 use mathlib.Core.Path.{_≡_, refl, sym, ap, _∙_}
 use mathlib.Core.Logic.{_↔_}
-use mathlib.Core.Bool.{Bool, true, false, cond}
+use mathlib.Core.Bool.{Bool, true, false, cond, not, _||_}
 use mathlib.Core.List.{List, [], _∷_, _++_, map}
-use Prim.Native.Nat.{ℕ}
+use Prim.Native.Nat.{ℕ, _≤_}
 use native.Mathlib.Omega.{arith}
+use lib.Dec.{leb}
 use lib.IntN.{ℤ}
+use lib.ListN.{length}
+use borrow.Author.Tests.{leb-true}
 use Rattle.laws.specs.Text.{text, same}
 use Rattle.laws.proofs.Each.{Each, none}
 use Rattle.laws.proofs.Same.{same-true}
@@ -20,7 +23,7 @@ use Rattle.words.specs.Cutting.{headWord, tailWords}
 use Rattle.words.specs.Find.{Entry, meaningOf}
 use Rattle.words.proofs.Table.{by-entry}
 use Rattle.command.specs.Settings.{axisSettings, deviceSettings, nameOf, readOnly}
-use Rattle.command.specs.Commands.{echoOf, getCommand, setCommand}
+use Rattle.command.specs.Commands.{carriesWords, echoOf, getCommand, setCommand}
 use Rattle.command.specs.declared.AxisSetting.the-variants as AxisSetting
 use Rattle.command.specs.declared.DeviceSetting.the-variants as DeviceSetting
 use Rattle.command.specs.declared.Setting.{Setting}
@@ -79,34 +82,38 @@ no-current {w} h = go (same w (text "current")) refl
     go false e = e
     go true e = let z : _≡_ {A = ℕ} 0 1 = cc (same-true w (text "current") e, number-read h, current-refused) in absurd (omega arith)
 
--- the command that a row's words are read as, where its words begin, and which it carries
+-- no word of the table that a command with words begins with is shorter than `tools`
+abbrev Begun : List (List ℕ) → Command → Bool
+Begun ws c = not (carriesWords c) || leb 5 (length (headWord ws))
+
+-- the command that a row's words are read as, where its words begin, which it carries, and what stands before them
 row-told : (p : ℕ) {ws : List (List ℕ)} {c : Command} {es : List (List ℕ)} → Row ws c es
-    → (readCommand p ws ≡ Words.Command c (echoPlace c p)) × (echoOf c ws ≡ es)
+    → (readCommand p ws ≡ Words.Command c (echoPlace c p)) × (echoOf c ws ≡ es) × (Begun ws c ≡ true)
 unfolding readCommand readMove readGet readSet readTools readStorepos readParking readWarnings ended meaningOf headWord tailWords same text
     echoOf
-row-told p Row.nothing = (refl, refl)
-row-told p Row.home = (refl, refl)
-row-told p Row.stop = (refl, refl)
-row-told p Row.estop = (refl, refl)
-row-told p (Row.move-abs h) = (one-read With.MoveAbs h, refl)
-row-told p (Row.move-rel h) = (one-read With.MoveRel h, refl)
-row-told p (Row.move-vel h) = (one-read With.MoveVel h, refl)
-row-told p Row.move-min = (refl, refl)
-row-told p Row.move-max = (refl, refl)
-row-told p (Row.move-stored h) = (one-read With.MoveStored h, refl)
-row-told p (Row.get {s}) = (rw (setting-read (OfAxis s)) refl, refl)
-row-told p (Row.get-device {s}) = (rw (setting-read (OfDevice s)) refl, refl)
-row-told p (Row.set {s} r h) = (rw (setting-read (OfAxis s)) (set-read (OfAxis s) r h), refl)
-row-told p (Row.set-device {s} r h) = (rw (setting-read (OfDevice s)) (set-read (OfDevice s) r h), refl)
-row-told p (Row.storepos h) = (ap (made With.Store) (number-read h), refl)
-row-told p (Row.storepos-at h k) = (rw (no-current k, number-read h, number-read k) refl, refl)
-row-told p (Row.storepos-current h) = (ap (made With.StoreCurrent) (number-read h), refl)
-row-told p Row.warnings = (refl, refl)
-row-told p Row.warnings-clear = (refl, refl)
-row-told p Row.parking-state = (refl, refl)
-row-told p Row.park = (refl, refl)
-row-told p Row.unpark = (refl, refl)
-row-told p Row.echo = (refl, refl)
+row-told p Row.nothing = (refl, refl, refl)
+row-told p Row.home = (refl, refl, refl)
+row-told p Row.stop = (refl, refl, refl)
+row-told p Row.estop = (refl, refl, refl)
+row-told p (Row.move-abs h) = (one-read With.MoveAbs h, refl, refl)
+row-told p (Row.move-rel h) = (one-read With.MoveRel h, refl, refl)
+row-told p (Row.move-vel h) = (one-read With.MoveVel h, refl, refl)
+row-told p Row.move-min = (refl, refl, refl)
+row-told p Row.move-max = (refl, refl, refl)
+row-told p (Row.move-stored h) = (one-read With.MoveStored h, refl, refl)
+row-told p (Row.get {s}) = (rw (setting-read (OfAxis s)) refl, refl, refl)
+row-told p (Row.get-device {s}) = (rw (setting-read (OfDevice s)) refl, refl, refl)
+row-told p (Row.set {s} r h) = (rw (setting-read (OfAxis s)) (set-read (OfAxis s) r h), refl, refl)
+row-told p (Row.set-device {s} r h) = (rw (setting-read (OfDevice s)) (set-read (OfDevice s) r h), refl, refl)
+row-told p (Row.storepos h) = (ap (made With.Store) (number-read h), refl, refl)
+row-told p (Row.storepos-at h k) = (rw (no-current k, number-read h, number-read k) refl, refl, refl)
+row-told p (Row.storepos-current h) = (ap (made With.StoreCurrent) (number-read h), refl, refl)
+row-told p Row.warnings = (refl, refl, refl)
+row-told p Row.warnings-clear = (refl, refl, refl)
+row-told p Row.parking-state = (refl, refl, refl)
+row-told p Row.park = (refl, refl, refl)
+row-told p Row.unpark = (refl, refl, refl)
+row-told p Row.echo = (refl, refl, refl)
 
 pub row-read : (p : ℕ) {ws : List (List ℕ)} {c : Command} {es : List (List ℕ)} → Row ws c es
     → readCommand p ws ≡ Words.Command c (echoPlace c p)
@@ -114,6 +121,9 @@ row-read p r = row-told p r .0
 
 pub row-echo : {ws : List (List ℕ)} {c : Command} {es : List (List ℕ)} → Row ws c es → echoOf c ws ≡ es
 row-echo r = row-told 0 r .1
+
+pub row-begins : {ws : List (List ℕ)} {c : Command} {es : List (List ℕ)} → Row ws c es → carriesWords c ≡ true → 5 ≤ length (headWord ws)
+row-begins {ws} {c} r e = leb-true 5 (length (headWord ws)) (rw e at (row-told 0 r .2))
 
 -- ---- what is read is spelled
 abbrev Spelled : List (List ℕ) → Command → Type 0
@@ -292,7 +302,7 @@ place-of p q ws c e = cc (e, row-read p (row-of p q ws c e))
 -- Words are read as a command exactly where they are spelled so; and they spell one command at most.
 pub row-iff : (p : ℕ) (ws : List (List ℕ)) (c : Command) (es : List (List ℕ)) → Row ws c es
     ↔ ((readCommand p ws ≡ Words.Command c (echoPlace c p)) × (echoOf c ws ≡ es))
-row-iff p ws c es = (row-told p, (λ h. rw (← h .1) (row-of p (echoPlace c p) ws c (h .0))))
+row-iff p ws c es = ((λ r. (row-read p r, row-echo r)), (λ h. rw (← h .1) (row-of p (echoPlace c p) ws c (h .0))))
 
 pub row-one : {ws es fs : List (List ℕ)} {c d : Command} → Row ws c es → Row ws d fs → c ≡ d
 row-one p q = cc (row-read 0 p, row-read 0 q)

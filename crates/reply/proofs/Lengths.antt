@@ -7,7 +7,7 @@ use mathlib.Core.List.{List, [], _∷_}
 use Prim.Native.Nat.{ℕ, zero, suc, _+_, _*_, _≤_}
 use native.Mathlib.Omega.{arith}
 use lib.Dec.{eqb, leb→le}
-use lib.ListN.{length, take, drop, length-append}
+use lib.ListN.{length, take, length-append}
 use Rattle.laws.specs.Text.{space, text, spaced}
 use Rattle.laws.proofs.Order.{eq-or-ne}
 use Rattle.laws.proofs.Bools.{clash}
@@ -75,21 +75,7 @@ pub echoed-none : length (echoed []) ≡ 1
 unfolding echoed text
 echoed-none = refl
 
-trail-drop : (k : ℕ) (ws : List (List ℕ)) → length (trail (drop k ws)) ≤ length (trail ws)
-unfolding trail
-trail-drop zero ws = omega arith
-trail-drop (suc k) [] = omega arith
-trail-drop (suc k) (w ∷ ws) = rw (length-append (space ∷ w) (trail ws)) (omega (arith, trail-drop k ws))
-
--- words cut from a text are not empty, and stand there with a space between them at least
-abbrev Some : List ℕ → Type 0
-Some w = 1 ≤ length w
-
-grown : {ws : List (List ℕ)} (c : ℕ) → Each Some ws → Each Some (grow c ws)
-unfolding grow
-grown c none = more {x = c ∷ []} (omega arith) none
-grown c (more {x = w} h e) = more {x = c ∷ w} (omega arith) e
-
+-- words cut from a text stand there with a space between them at least
 grown-trail : (c : ℕ) (ws : List (List ℕ)) → 1 ≤ length ws → length (trail (grow c ws)) ≤ length (trail ws) + 1
 unfolding grow trail
 grown-trail c [] h = absurd (omega arith)
@@ -109,9 +95,6 @@ module _ (P : List ℕ → List (List ℕ) → Type 0) (empty : P [] []) (gap : 
       go : (t : Bool) → begins s ≡ t → (c ≡ 32 → ⊥) → P s (cut s) → P (c ∷ s) (cut (c ∷ s))
       go true b h p = subst (P (c ∷ s)) (sym (cut-inside c s h b)) (inside c s (other-yes c h) b p)
       go false b h p = subst (P (c ∷ s)) (sym (cut-alone c s h b)) (alone c s (other-yes c h) b p)
-
-cut-some : (s : List ℕ) → Each Some (cut s)
-cut-some = by-cut (λ s ws. Each Some ws) none (λ s p. p) (λ c s h b p. grown c p) (λ c s h b p. more {x = c ∷ []} (omega arith) p)
 
 -- at most one byte more than the text, and none more where no word begins the text
 record Close (s : List ℕ) (ws : List (List ℕ)) : Type 0 where
@@ -148,26 +131,13 @@ close-alone c s h b p =
 cut-trail : (s : List ℕ) → length (trail (cut s)) ≤ length s + 1
 cut-trail s = by-cut Close close-none close-gap close-inside close-alone s .near
 
--- behind two words, each of one byte at least and behind a space
-each-drop : {ws : List (List ℕ)} (k : ℕ) → Each Some ws → Each Some (drop k ws)
-each-drop zero e = e
-each-drop (suc k) none = none
-each-drop (suc k) (more h e) = each-drop k e
-
-two-off : {ws : List (List ℕ)} → Each Some ws → length (trail ws) ≤ 79 → length (echoed (drop 2 ws)) ≤ 74
-unfolding trail
-two-off none h = rw echoed-none (omega arith)
-two-off (more x none) h = rw echoed-none (omega arith)
-two-off (more x (more y none)) h = rw echoed-none (omega arith)
-two-off (more {x = u} {xs = us} p (more {x = v} {xs = vs} q (more {x = w} {xs = ws} r e))) h =
-    let k = echoed-some w ws in
-    let l : length (trail (w ∷ ws)) + 4 ≤ 79 = omega
-    (arith, length-append (space ∷ u) (trail (v ∷ w ∷ ws)), length-append (space ∷ v) (trail (w ∷ ws))) in
-    omega arith
-
--- so the echo of a content of at most 78 bytes fits, whatever words stand before the command's own
-pub echo-fits : (s : List ℕ) (skip : ℕ) → length s ≤ 78 → length (echoed (drop 2 (drop skip (cut s)))) ≤ 74
-echo-fits s skip h = two-off (each-drop skip (cut-some s)) (omega (arith, cut-trail s, trail-drop skip (cut s)))
+-- so the echo of words that stand in 74 bytes fits
+pub echo-fits : (s : List ℕ) → length s ≤ 74 → length (echoed (cut s)) ≤ 74
+echo-fits s h = go (cut s) (cut-trail s)
+  where
+    go : (ws : List (List ℕ)) → length (trail ws) ≤ length s + 1 → length (echoed ws) ≤ 74
+    go [] k = omega (arith, echoed-none)
+    go (w ∷ ws) k = omega (arith, echoed-some w ws)
 
 -- ---- a refusal's name
 abbrev Brief : Named → Type 0

@@ -8,3 +8,4 @@ pub mod ReadWords
 pub mod Shown
 pub mod Place
 pub mod ReplyReadsBack
+pub mod ChainReadsBack

@@ -25,7 +25,7 @@ use Rattle.reply.proofs.Room.{most-data}
 use Rattle.view.specs.View.{headOf}
 use Rattle.view.specs.Data.{dataOf}
 use Rattle.carriage.specs.Step.{Stepped, silent, written, wantsSum, replyOf, rejected, accepted, step}
-use Rattle.carriage.proofs.Fits.{data-fits}
+use Rattle.carriage.proofs.Fits.{line-fits}
 use Rattle.rules.proofs.GoodStays.{good-count}
 use Rattle.carriage.proofs.Replies.{shown-digit}
 use Rattle.carriage.proofs.Demands.{Rejects, dataFor, replyIn, each-answer, every-answer, good-goes-on}
@@ -111,7 +111,7 @@ module _ (d : Device) (l b : List ℕ) where
       let w = carried-of l a k end from c is in
       rw is
       (reply-heard 0 (next d k c) k true (dataOf d k es c) b after (data-said d k c four g e (carried-words l w))
-      (data-fits d k c es l g e w))
+      (line-fits d k c es l g e w))
 
   -- Whatever a record with four axis places answers with a reply, the host understands as this.
   pub reply-reads-back : length (d .axes) ≡ 4 → (step d l b .answer .length ≡ 0 → ⊥) → Understood d l (readLine l) (step d l b)

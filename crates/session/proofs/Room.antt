@@ -9,54 +9,35 @@ use lib.Dec.{eqb}
 use lib.ListN.{length, take, replicate, length-append, length-take}
 use borrow.Author.Tests.{eqb-true}
 use Rattle.laws.specs.Text.{LF, text}
-use Rattle.laws.proofs.Each.{none, more}
-use Rattle.laws.proofs.Refusals.{at-most}
-use Rattle.units.specs.Units.{place}
-use Rattle.numbers.proofs.Decimal.{digits-length}
 use Rattle.words.specs.Cutting.{grow}
 use Rattle.device.specs.declared.Device.{Device}
-use Rattle.axis.specs.declared.reports.Report.{Report as Motor}
-use Rattle.axis.specs.Reports.{reportOf}
-use Rattle.rules.specs.Reports as Device
 use Rattle.reply.specs.Data.{refusalName}
-use Rattle.reply.specs.Reply.{reply}
-use Rattle.carriage.specs.Step.{Stepped, silent, written, replyOf, rejected, accepted, step}
-use Rattle.carriage.specs.Report as Report
+use Rattle.carriage.specs.Step.{Stepped, silent, written, rejected, accepted, step}
+use Rattle.carriage.specs.Report.{report}
 use Rattle.carriage.proofs.Demands.{every-answer}
-use Rattle.carriage.proofs.Room.{reply-at-most-96, silence-small}
+use Rattle.carriage.proofs.Room.{reply-at-most-96, silence-small, report-small}
+use Rattle.carriage.proofs.SilentNumbers.{reply-some}
 use Rattle.input.specs.declared.reports.ReportRead.{ReportRead}
 use Rattle.input.specs.declared.reports.ReportRead.the-variants.{Report, Misspelt}
 use Rattle.input.specs.ReportLines.{readReport}
 use Rattle.input.specs.Parts.{parts}
 use Rattle.input.specs.Prints.{isReport, told, answered}
+use Rattle.input.proofs.Prints.{told-short}
 use Rattle.session.specs.Bench.{reportTurn, lineTurn, turn, turns, benchDevice, bench}
 
-told-short : (name : List ℕ) (n : ℕ) → length name ≤ 7 → n < 100 → length (told name n) ≤ 96
-unfolding told text
-told-short name n h k = rw (length-append, length-append) (omega (arith, digits-length 1 n k))
-
 -- ---- a report
-refusal-small : (d : Device) (k : ℕ) (r : Motor) → Device.reportRefusal d k r ≤ 22
-unfolding Device.reportRefusal
-refusal-small d k r = at-most 22 (more (omega arith) (more (omega arith) none))
-
 report-short : (d : Device) (r : ReportRead) → length (reportTurn d r .prints) ≤ 96
-unfolding reportTurn Report.report Device.report text
+unfolding reportTurn text
 report-short d Misspelt = told-short (text "report ") 22 (omega arith) (omega arith)
 report-short d (Report axis kind last) =
-    let n = Device.reportRefusal d (place (axis .0)) (reportOf kind last) in
-    told-short (text "report ") n (omega arith) (omega (arith, refusal-small d (place (axis .0)) (reportOf kind last)))
+    told-short (text "report ") (report d axis kind last .number) (omega arith) (omega (arith, report-small d axis kind last))
 
 -- ---- a line
-reply-some : (d : Device) (k : ℕ) (ok : Bool) (words : List ℕ) → 0 < length (replyOf d k ok words)
-unfolding replyOf reply text
-reply-some d k ok words = rw (length-append, length-append) (omega arith)
-
 silent-small : (d : Device) (l b : List ℕ) → step d l b .answer .length ≡ 0 → step d l b .answer .number < 100
 unfolding silent rejected accepted written
 silent-small d l b =
     every-answer (λ s. s .answer .length ≡ 0 → s .answer .number < 100) d l b (λ h. omega (arith, silence-small d l b))
-    (λ n k g h. absurd (omega (arith, reply-some d k false (refusalName n))))
+    (λ n k g h. absurd (reply-some d k false (refusalName n) h))
     (λ k c es g e w h. omega arith)
 
 line-short : (d : Device) (p : List ℕ) → length (lineTurn d p .prints) ≤ 96

@@ -8,7 +8,7 @@ use Prim.Native.Nat.{ℕ, zero, suc, _+_, _-_, _≤_, _<_}
 use native.Mathlib.Numerals.{add-one}
 use native.Mathlib.Omega.{arith}
 use native.Mathlib.Nat.{add-zero}
-use lib.ListN.{length, getD, take, drop, length-drop, drop-of-length-le}
+use lib.ListN.{length, getD, take, drop, length-drop, drop-of-length-le, length-take}
 use lib.Seq.{drop-drop, drop-cons, getD-drop}
 use Rattle.laws.specs.Lists.{span}
 use Rattle.laws.proofs.Order.{lt-or-le, eq-or-ne}
@@ -139,6 +139,7 @@ module _ (s : List ℕ) (at : ℕ) {a : ℕ} (q : a ≡ startOf s at) where
 
 -- ---- what the answer w of `word_at` says
 record Stands (s : List ℕ) (at : ℕ) (w : Word) : Type 0 where
+  behind : at ≤ length s → at ≤ w .start
   whole : w .start ≤ w .end
   within : w .end ≤ length s
   head : take (w .end - w .start) (drop (w .start) s) ≡ headWord (cut (drop at s))
@@ -151,14 +152,15 @@ stands-none s at l =
     let d : drop (length s) s ≡ [] = drop-of-length-le s {i = length s} (omega arith) in
     let w : length s - length s ≡ 0 = omega arith in
     rw (at-end s at (startOf s at) refl l)
-    (record { whole = omega arith; within = omega arith; head = rw (n, w); tail = rw (n, d, cut-none) })
+    (record { behind = λ h. h; whole = omega arith; within = omega arith; head = rw (n, w); tail = rw (n, d, cut-none) })
 
 stands-some : (s : List ℕ) (at : ℕ) → startOf s at < length s → Stands s at (wordAt s at)
 unfolding headWord tailWords
 stands-some s at l =
     let a = startOf s at in
     let p = part-of s at a (endOf s a) refl refl l in
-    rw (at-word s at a refl l) (record { whole = omega (arith, p); within = p .within; head = rw (p .words); tail = rw (p .words) })
+    rw (at-word s at a refl l)
+    (record { behind = λ h. omega arith; whole = omega (arith, p); within = p .within; head = rw (p .words); tail = rw (p .words) })
 
 stands : (s : List ℕ) (at : ℕ) → Stands s at (wordAt s at)
 stands s at = ⊎-elim (stands-some s at) (stands-none s at) (lt-or-le (startOf s at) (length s))
@@ -203,6 +205,19 @@ pub past-first : (s : List ℕ) (at n : ℕ) → pastMany s (pastOf s at) n ≡ 
 unfolding pastMany
 past-first s at zero = refl
 past-first s at (suc n) = ap (pastOf s) (past-first s at n)
+
+-- the first word from `at` on lies before the place behind it, which lies in the text
+pub past-far : (s : List ℕ) (at : ℕ) → at ≤ length s → at + length (headWord (cut (drop at s))) ≤ pastOf s at
+unfolding pastOf
+past-far s at h =
+    let w = stands s at in
+    let long : length (headWord (cut (drop at s))) ≤ wordAt s at .end - wordAt s at .start = rw (← w .head, length-take) (omega arith) in
+    omega (arith, long, w .behind h, w .whole)
+
+pub past-within : (s : List ℕ) (at i : ℕ) → at ≤ length s → pastMany s at i ≤ length s
+unfolding pastMany pastOf
+past-within s at zero h = h
+past-within s at (suc i) h = stands s (pastMany s at i) .within
 
 -- the words behind the first of those from place i of the list on
 pub tail-drop : (ws : List (List ℕ)) (i : ℕ) → tailWords (drop i ws) ≡ drop (suc i) ws

@@ -1,17 +1,13 @@
--- `input::reports::read_report` meets its contract: a line of 80 bytes at most.
+-- `input::reports::read_report` meets its contract: three numbers behind `R`.
 -- Assumes nothing.
-use mathlib.Core.Path.{_∙_}
-use Rattle.input.proofs.ReportLines.{too-long, short, told}
+use Rattle.input.proofs.ReportLines.{report-told}
 use borrow.Author.Needs.{needs}
 use Rattle.input.proofs.reports.read_report.Statement.{statement}
 use Rattle.input.proofs.reports.read_report.Tie as tie
 
 returns : tie.Need-returns
-returns c = told _ (too-long _ (c .if1 .taken))
-
-returns-2 : tie.Need-returns-2
-returns-2 c = told _ (c .framed .ensures ∙ short _ (c .before .if1 .left))
+returns c = report-told _ (c .before .behind-r .ensures) (c .three-at .ensures)
 
 pub read-report-spec : {M : Type 1} → statement M
 read-report-spec = tie.close
-    (tie.spec returns (λ c κs. search needs) returns-2)
+    (tie.spec (λ c κs. search needs) (λ c κs. search needs) returns)

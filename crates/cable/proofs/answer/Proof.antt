@@ -1,0 +1,22 @@
+-- `cable::answer` only lends its buffer: what is written out stands inside it, and the next chain is the turn's.
+-- Assumes nothing.
+use native.Mathlib.Omega.{arith}
+use lib.ListN.{length-take}
+use Rattle.buffer.proofs.Wrote.{wrote-inside}
+use borrow.Author.Needs.{needs}
+use Rattle.cable.proofs.answer.Statement.{statement}
+use Rattle.cable.proofs.answer.Tie as tie
+
+array-share-prefix-out : tie.Need-array-share-prefix-out
+array-share-prefix-out c = wrote-inside (c .before .turn .ensures .prints)
+
+slice-aggregate-write-all : tie.Need-slice-aggregate-write-all
+slice-aggregate-write-all c = simp length-take (omega (arith, wrote-inside (c .before .before .turn .ensures .prints)))
+
+returns : tie.Need-returns
+returns c = c .before .before .before .before .turn .ensures .next
+
+pub answer-spec : {M : Type 1} → statement M
+answer-spec =
+    tie.close
+    (tie.spec (λ c. search needs) (λ c κs. search needs) array-share-prefix-out slice-aggregate-write-all (λ c κs. search needs) returns)

@@ -1,0 +1,11 @@
+pub mod Again
+pub mod Look
+pub mod Size
+pub mod Alone
+pub mod Walks
+pub mod Chains
+pub mod BackToBack
+pub mod Isolated
+pub mod RefusalKeeps
+pub mod OneIsStep
+pub mod Cases

@@ -1,0 +1,15 @@
+-- Misspelt, or for a place.
+-- Assumes nothing.
+use Rattle.chain_session.proofs.Turns.{reports-none}
+use borrow.Author.Needs.{needs}
+use Rattle.chain_session.proofs.report.Statement.{statement}
+use Rattle.chain_session.proofs.report.Tie as tie
+
+returns : tie.Need-returns
+returns c = rw (c .enum-told .given .1) (reports-none (c .before .before .args .c))
+
+returns-2 : tie.Need-returns-2
+returns-2 c = rw (c .before .before .before .r .given .1, ← c .before .place .ensures) (c .report-at .ensures)
+
+pub report-spec : {M : Type 1} → statement M
+report-spec = tie.close (tie.spec (λ c. search needs) (λ c. search needs) (λ c κs. search needs) (λ c κs. search needs) returns returns-2)
