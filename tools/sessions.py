@@ -1,6 +1,7 @@
-# Whole inputs of bench and of cable made from a seed: lines by document 01's grammar in all its freedoms, lines that
-# just miss it, motor reports good and bad, and longer sessions that make sense. session(seed, index), for bench, is
-# always the same bytes, and so is cable_session(seed, index), for cable.
+# Whole inputs of bench, of cable and of console made from a seed: lines by document 01's grammar in all its freedoms,
+# lines that just miss it, motor reports good and bad, and longer sessions that make sense. session(seed, index), for
+# bench, is always the same bytes, and so are cable_session(seed, index), for cable, and places_session(seed, index),
+# for console: numbers and addresses that just miss, for the places that it points at.
 import random
 import re
 
@@ -29,6 +30,9 @@ BAD_NUMBERS = [
     '2147483648', '-2147483649', '4294967296', '4294967297', '-4294967295', '0x80000000', '-0x80000001', '0xffffffff',
     '0x100000001', '-0x100000000', '9999999999999999999', '18446744073709551617', '0x10000000000000001',
     '-18446744073709551615', '340282366920938463463374607431768211457', '3000000000', '-3000000000']
+
+# What a number takes, and what stands beside that in the code of characters; and a space, which parts its word.
+BESIDE = '001789+-xXaAfFgG/:;@`.,_ '
 
 WORDS = [
     'home', 'stop', 'estop', 'move', 'abs', 'rel', 'vel', 'min', 'max', 'stored', 'get', 'set', 'tools', 'storepos',
@@ -61,6 +65,7 @@ class Maker:
         self.oddness = self.dice.choice([0.02, 0.1, 0.3])
         self.damage = self.dice.choice([0, 0.03, 0.1, 0.4])
         self.sums = self.dice.choice([0, 0.1, 0.6])
+        self.drawn = self.oddness / 5           # the share of lines that are drawn out to about 80 bytes
 
     def chance(self, part):
         return self.dice.random() < part
@@ -256,7 +261,7 @@ class Maker:
         """One line, spelled with all freedoms; now and then damaged or drawn out to about 80 bytes."""
         content, footer = self.content(words, axis).encode(), self.footer()
         summed = self.chance(self.sums)
-        if self.chance(self.oddness / 5):
+        if self.chance(self.drawn):
             length = self.pick(76, 77, 78, 79, 80, 80, 80, 81, 81, 82, 90)
             content = self.stretched(content, length - 1 - len(footer) - (3 if summed else 0))
         line = b'/' + content + (self.checksum(content) if summed else b'') + footer
@@ -484,6 +489,80 @@ class CableMaker(Maker):
         return [source for source in super().sources(scope) if self.sent in (0, now[source[0] - 1])]
 
 
+class PlacesMaker(Maker):
+    """The same for the console: mostly rows with numbers, and these and the addresses just miss in many ways."""
+
+    def __init__(self, seed, index):
+        super().__init__(seed, index)
+        self.misses = self.pick(0.3, 0.6, 0.9)  # the share of the numbers that miss
+        self.drawn = self.pick(0.02, 0.2)
+
+    def bent(self, word):
+        """One byte changed, put in or left out, the word cut short, or more behind it."""
+        at = self.dice.randrange(len(word) + 1)
+        byte = self.dice.choice(BESIDE) if self.chance(0.7) else chr(self.dice.randint(33, 126))
+        how = self.pick('change', 'insert', 'delete', 'cut', 'behind')
+        if how == 'change':
+            return word[:at] + byte + word[at + 1:]
+        if how == 'insert':
+            return word[:at] + byte + word[at:]
+        if how == 'delete':
+            return word[:at] + word[at + 1:]
+        return word[:at] if how == 'cut' else word + byte + self.pick('', '0', 'x', word)
+
+    def past(self, most):
+        """A bound's digits up to some place, one more that may carry it past the bound, and others behind."""
+        prefix, digits, bound = self.pick(('', '0123456789', str(most)), ('0x', '0123456789abcdefABCDEF', f'{most:x}'))
+        at = self.dice.randrange(len(bound) + 1)
+        larger = [c for c in digits if c > bound[at:at + 1]] if self.chance(0.6) else None
+        more = [self.dice.choice(larger or digits)]
+        more += self.dice.choices(digits, k=self.pick(0, max(0, len(bound) - at - 1), 3, 12))
+        return prefix + self.zeros() + bound[:at] + ''.join(more)
+
+    def miss(self, value):
+        """A word that mostly is no number, or one out of range, and mostly not by much."""
+        how = self.pick('bent', 'bent', 'twice', 'past', 'past', 'junk', 'bad', 'stops')
+        if how == 'bad':
+            return self.dice.choice(BAD_NUMBERS)
+        if how == 'stops':
+            return self.pick('+', '-', '0x', '+0x', '-0x')
+        if how in ('bent', 'twice'):
+            word = self.bent(self.spelled(value))
+            return self.bent(word) if how == 'twice' else word
+        sign = self.pick('', '', '+', '-', '-', '--', '+-')
+        word = sign + self.past(-LOWEST if sign == '-' else HIGHEST)
+        return self.bent(word) if how == 'junk' else word
+
+    def number(self, value):
+        return self.miss(value) if self.chance(self.misses) else self.spelled(value)
+
+    def address_word(self):
+        kind = self.dice.random()
+        if kind < 0.1:
+            return self.bent(self.unsigned(self.whom()))
+        return self.pick('', '', '', '+', '-') + self.past(99) if kind < 0.2 else super().address_word()
+
+    def whom(self):
+        return self.dice.randint(1, 99) if self.chance(0.1) else super().whom()
+
+    def storepos(self):
+        words = super().storepos()
+        if words[-1] == 'current' and self.chance(0.6):
+            words[-1] = self.bent('current')
+        return words
+
+    def command(self):
+        words = self.pick(self.move, self.move, self.set_command, self.set_command, self.storepos, self.storepos,
+                          self.storepos, super().command)()
+        return self.miswording(words) if self.chance(0.15) else words
+
+    def line(self, words, axis=None):
+        """An address that was asked for in a number that missed is asked for again: most lines are for the device."""
+        super().line(words, axis)
+        if 'comm.address' in words:
+            self.be_sure()
+
+
 def session(seed, index):
     """The whole input of one run of bench."""
     return filled(Maker(seed, index))
@@ -492,6 +571,19 @@ def session(seed, index):
 def cable_session(seed, index):
     """The whole input of one run of cable."""
     return filled(CableMaker(seed, index))[:ENTRY_BYTES]
+
+
+def places_session(seed, index):
+    """The whole input of one run of console; it reads on behind 4,096 bytes, so there are no more."""
+    maker = PlacesMaker(seed, index)
+    scenes = [maker.anything] * 60 + [maker.any_report, maker.any_report, maker.readdress, maker.summing, maker.stored,
+                                      maker.home, maker.noise, maker.short]
+    length = maker.pick(1, 40, 200, 600, 1500, 2500, 4000, 4090)
+    while len(maker.bytes) < length:
+        if maker.chance(0.05):
+            maker.be_sure()
+        maker.dice.choice(scenes)()
+    return ending(maker)[:ENTRY_BYTES]
 
 
 def filled(maker):

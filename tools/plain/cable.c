@@ -26,6 +26,6 @@ int main(void)
     for (int i = 0; i < RECORDS; i++)
         if (plain_fresh(&chain[i], address[i], axes[i], 100 + i) != 0)
             return 1;
-    run_session(take, report, ROOM);
+    run_session(take, 0, report, ROOM);
     return 0;
 }

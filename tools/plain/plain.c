@@ -81,7 +81,7 @@ int plain_read_report(const unsigned char *line, size_t length, int *number, int
     if (end == 0 || place_of(next_word(&rest), report_word, 1) < 0 || line[0] != 'R')
         return BADREPORT;
     for (int i = 0; i < count; i++)
-        if (!read_number(next_word(&rest), &number[i]))
+        if (read_number(next_word(&rest), &number[i]))
             return BADREPORT;
     return no_more(&rest) == 0 ? ACCEPTED : BADREPORT;
 }

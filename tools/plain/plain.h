@@ -11,7 +11,8 @@ enum {
     LINE_BYTES = 80,
     REPLY_BYTES = 96,
     CHAIN_PLACES = 16,
-    ENTRY_BYTES = 4096
+    ENTRY_BYTES = 4096,
+    NO_PLACE = 255
 };
 
 /* The settings in document 01's order: first those of an axis, then those of the device. */
@@ -55,6 +56,11 @@ int plain_fresh(struct device *device, int address, int axiscount, int deviceid)
 /* Obeys one line and writes its reply. Answers document 01's number; written is the length of the reply. */
 int plain_step(struct device *device, const unsigned char *line, size_t length,
                unsigned char *reply, size_t room, size_t *written);
+
+/* Tells where a line went wrong, counted from 0 at its `/`: the place of the first byte that made a number refuse, or
+   the end of the number's word if that stopped too soon. That is where plain_step answers 4, or 11 since numbers of the
+   line's row refuse and nothing else; NO_PLACE with any other answer. The record stays as it is. */
+int plain_place(const struct device *device, const unsigned char *line, size_t length);
 
 /* Obeys one line on each record of a chain that it concerns, and writes their replies one behind the other, in the
    order of the chain. Answers 20, 21, 1 to 4, or 5 if it concerns none; else 0, whatever the replies say. */

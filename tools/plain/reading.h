@@ -1,6 +1,6 @@
 /* Reading, with no record: what a line asks. The frame and the address come first, then the command's own words; tables
-   name them. This and answering.h are headers, so that plain_step and plain_chain are each compiled in one piece, and
-   neither pays for a call that it has only because of the other. */
+   name them. This and answering.h are headers, so that plain_step, plain_chain and plain_place are each compiled in one
+   piece, and none pays for a call that it has only because of another. */
 #ifndef READING_H
 #define READING_H
 #include "plain.h"
@@ -11,7 +11,7 @@ int memcmp(const void *, const void *, size_t);
 
 /* ---- tables */
 
-enum { FURTHEST = 1000000000, HIGHEST = 2147483647 };
+enum { FURTHEST = 1000000000, HIGHEST = 2147483647, LAST_ADDRESS = 99 };
 
 struct name {
     const char *text;
@@ -91,6 +91,7 @@ struct command {
     int number;             /* N */
     int position;           /* P */
     struct text echo;
+    const byte *wrong;      /* where a number was refused, and only numbers were; else 0 */
 };
 
 static struct word next_word(struct text *rest)
@@ -126,10 +127,10 @@ static int digit_of(byte c)
     return 16;
 }
 
-/* Reads a number without its sign; what is beyond 32 bits stays beyond them. Answers 0 if it is none. */
-static int read_unsigned(const byte *at, const byte *end, long long *value)
+/* Reads a number without its sign, up to most. Answers 0, or where it is refused: at the first byte that no such number
+   goes on with, so at the digit that carries it past most, whatever follows; at the end if it stops too soon. */
+static const byte *read_unsigned(const byte *at, const byte *end, long long most, long long *value)
 {
-    const long long beyond = 1LL << 32;
     long long sum = 0;
     int base = 10;
     if (end - at >= 2 && at[0] == '0' && at[1] == 'x') {
@@ -137,31 +138,29 @@ static int read_unsigned(const byte *at, const byte *end, long long *value)
         at += 2;
     }
     if (at == end)
-        return 0;
+        return at;
     for (; at < end; at++) {
         int digit = digit_of(*at);
-        if (digit >= base)
-            return 0;
         sum = sum * base + digit;
-        if (sum > beyond)
-            sum = beyond;
+        if (digit >= base || sum > most)
+            return at;
     }
     *value = sum;
-    return 1;
+    return 0;
 }
 
-/* Reads a number of 32 bits. Answers 0 if the word is none. */
-static int read_number(struct word word, int *value)
+/* Reads a number of 32 bits. Answers 0, or where the word is refused. */
+static const byte *read_number(struct word word, int *value)
 {
-    const byte *at = word.at, *end = word.at + word.length;
+    const byte *at = word.at, *end = word.at + word.length, *wrong;
     long long size;
     int negative = word.length > 0 && *at == '-';
     if (negative || (word.length > 0 && *at == '+'))
         at++;
-    if (!read_unsigned(at, end, &size) || size > (long long)HIGHEST + negative)
-        return 0;
-    *value = (int)(negative ? -size : size);
-    return 1;
+    wrong = read_unsigned(at, end, (long long)HIGHEST + negative, &size);
+    if (!wrong)
+        *value = (int)(negative ? -size : size);
+    return wrong;
 }
 
 /* ---- the line */
@@ -209,7 +208,8 @@ static int read_frame(const byte *line, size_t length, struct text *content)
     return 0;
 }
 
-/* Reads address and axis and leaves the first word of the command. Answers 4 or 0. */
+/* Reads address and axis and leaves the first word of the command. Answers 4 or 0. A sign is no byte of an address, so
+   it is refused there. */
 static int read_address(struct text *content, struct command *command, struct word *first)
 {
     long long value;
@@ -221,7 +221,8 @@ static int read_address(struct text *content, struct command *command, struct wo
     byte c = first->at[0];
     if (c != '+' && c != '-' && (c < '0' || c > '9'))
         return 0;
-    if (!read_unsigned(first->at, first->at + first->length, &value) || value > 99)
+    command->wrong = read_unsigned(first->at, first->at + first->length, LAST_ADDRESS, &value);
+    if (command->wrong)
         return BADADDRESS;
     command->address = (int)value;
     *first = next_word(content);
@@ -246,9 +247,14 @@ static int no_more(struct text *rest)
     return next_word(rest).length == 0 ? 0 : BADDATA;
 }
 
-static int last_number(struct text *rest, int *value)
+/* Where the number is missing, or more words follow, there is no row with so many words, and no place to tell. */
+static int last_number(struct text *rest, struct command *command)
 {
-    return read_number(next_word(rest), value) ? no_more(rest) : BADDATA;
+    struct word word = next_word(rest);
+    if (word.length == 0 || no_more(rest) != 0)
+        return BADDATA;
+    command->wrong = read_number(word, &command->number);
+    return command->wrong ? BADDATA : 0;
 }
 
 static int read_move(struct text *rest, struct command *command)
@@ -257,7 +263,7 @@ static int read_move(struct text *rest, struct command *command)
     if (place < 0)
         return BADCOMMAND;
     command->row = MOVE_ABS + place;
-    return command->row >= MOVE_MIN ? no_more(rest) : last_number(rest, &command->number);
+    return command->row >= MOVE_MIN ? no_more(rest) : last_number(rest, command);
 }
 
 static int read_setting(struct text *rest, struct command *command, enum row row)
@@ -267,24 +273,28 @@ static int read_setting(struct text *rest, struct command *command, enum row row
         return BADCOMMAND;
     command->row = row;
     command->setting = place;
-    return row == GET ? no_more(rest) : last_number(rest, &command->number);
+    return row == GET ? no_more(rest) : last_number(rest, command);
 }
 
+/* Which of the three rows it is goes by their last words; any that is not `current` is a number. */
+static enum row storepos_row(struct word last)
+{
+    if (last.length == 0)
+        return STORED_GET;
+    return place_of(last, current_word, 1) == 0 ? STORED_CURRENT : STORED_SET;
+}
+
+/* Of two numbers that are refused the first is told; of too few or too many words none. */
 static int read_storepos(struct text *rest, struct command *command)
 {
-    struct word last;
-    if (!read_number(next_word(rest), &command->number))
+    struct word number = next_word(rest), last = next_word(rest);
+    if (number.length == 0 || no_more(rest) != 0)
         return BADDATA;
-    last = next_word(rest);
-    if (last.length == 0)
-        command->row = STORED_GET;
-    else if (place_of(last, current_word, 1) == 0)
-        command->row = STORED_CURRENT;
-    else if (read_number(last, &command->position))
-        command->row = STORED_SET;
-    else
-        return BADDATA;
-    return no_more(rest);
+    command->row = storepos_row(last);
+    command->wrong = read_number(number, &command->number);
+    if (!command->wrong && command->row == STORED_SET)
+        command->wrong = read_number(last, &command->position);
+    return command->wrong ? BADDATA : 0;
 }
 
 static int read_parking(struct text *rest, struct command *command)

@@ -1,10 +1,13 @@
-/* What bench and cable share: the whole run. Standard input is parted after each LF, and for each part the replies to a
-   line, `silent N` or `report N` is printed. */
+/* What bench, cable and console share: the whole run. Standard input is parted after each LF, and for each part the
+   replies to a line, `silent N` or `report N` is printed; by console a caret first, where a line has a place for it. */
 #ifndef SESSION_H
 #define SESSION_H
 #include "entry.h"
 
 enum { OUTPUT_BYTES = 65536 };
+
+/* Tells where a program's own record finds that a line went wrong, or NO_PLACE. */
+typedef int tell_place(const unsigned char *line, size_t length);
 
 /* A program's own record, or its chain, takes one motor report: answers the number. */
 typedef int take_report(const unsigned char *part, size_t length);
@@ -36,6 +39,23 @@ static void say(const char *word, int number)
     held = (size_t)(to - output);
 }
 
+/* Prints `^` under that place of a line. */
+static void point(int place)
+{
+    while (place-- > 0)
+        output[held++] = ' ';
+    output[held++] = '^';
+    output[held++] = '\n';
+}
+
+/* The place is asked of the record as it is before the line. */
+static void point_at_wrong(const unsigned char *part, size_t length, tell_place *tell)
+{
+    int place = tell(part, length);
+    if (place != NO_PLACE)
+        point(place);
+}
+
 static void answer_line(const unsigned char *part, size_t length, take_line *line)
 {
     size_t written;
@@ -45,8 +65,16 @@ static void answer_line(const unsigned char *part, size_t length, take_line *lin
         say("silent", number);
 }
 
-/* Takes all parts; room is as many bytes as the replies to one line may have. */
-static void run_session(take_line *line, take_report *report, size_t room)
+/* Takes one part that is a line; tell is 0 for a program that points at nothing. */
+static void take_part(const unsigned char *part, size_t length, take_line *line, tell_place *tell)
+{
+    if (tell)
+        point_at_wrong(part, length, tell);
+    answer_line(part, length, line);
+}
+
+/* Takes all parts; room is as many bytes as may be printed for one of them. */
+static void run_session(take_line *line, tell_place *tell, take_report *report, size_t room)
 {
     static unsigned char entry[ENTRY_BYTES];
     size_t length = read_entry(entry), part;
@@ -57,7 +85,7 @@ static void run_session(take_line *line, take_report *report, size_t room)
         if (entry[at] == 'R')
             say("report", report(entry + at, part));
         else
-            answer_line(entry + at, part, line);
+            take_part(entry + at, part, line, tell);
     }
     flush();
 }
