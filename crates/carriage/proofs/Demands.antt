@@ -59,7 +59,7 @@ module _ (d : Device) (r : LineRead) (b : List ℕ) (e : silence d r b ≡ 0) wh
       go n true q h = eqb-true n 0 q
       go n false q h = h
 
-some-number : {l : List ℕ} {n : ℕ} → Reads l (Silent n) → n ≡ 0 → ⊥
+some-number : {l : List ℕ} {n p : ℕ} → Reads l (Silent n p) → n ≡ 0 → ⊥
 some-number (unframed too-long x) e = omega arith
 some-number (unframed not-line x) e = omega arith
 some-number (unframed bad-sum x) e = omega arith
@@ -71,15 +71,15 @@ misspelt-some bad-data = refl
 
 -- what holds of every number that the reader rejects a line's words with
 abbrev pub Rejects : (ℕ → Type 0) → LineRead → Type 0
-Rejects Q (Silent n) = Unit
+Rejects Q (Silent n p) = Unit
 Rejects Q (Addressed n k end (Words.Command c from)) = Unit
-Rejects Q (Addressed n k end (Words.Refused m)) = Q m
+Rejects Q (Addressed n k end (Words.Refused m p)) = Q m
 
 -- what holds of the silence, of words that are misspelt, of a command that is refused and of one that is accepted, holds of every
 -- answer: with what was read of the line
 module _ (P : Stepped → Type 0) (d : Device) (l b : List ℕ)
     (quiet : (silence d (readLine l) b ≡ 0 → ⊥) → P (silent (silence d (readLine l) b) d b))
-    (wrong : (a k end m : ℕ) → readLine l ≡ Addressed a k end (Words.Refused m) → Misspelt m → good d ≡ true → P (rejected m d k b))
+    (wrong : (a k end m p : ℕ) → readLine l ≡ Addressed a k end (Words.Refused m p) → Misspelt m → good d ≡ true → P (rejected m d k b))
     (refused : (a k end from : ℕ) (c : Command) → readLine l ≡ Addressed a k end (Words.Command c from) → good d ≡ true
     → (refusal d k c ≡ 0 → ⊥) → P (rejected (refusal d k c) d k b))
     (done : (a k end from : ℕ) (c : Command) → readLine l ≡ Addressed a k end (Words.Command c from) → good d ≡ true
@@ -95,8 +95,8 @@ module _ (P : Stepped → Type 0) (d : Device) (l b : List ℕ)
       go false e = refused a k end from c is g (eqb-false (refusal d k c) 0 e)
 
   answers : (r : LineRead) → readLine l ≡ r → Reads l r → silence d r b ≡ 0 → P (answered d l r b)
-  answers (Silent n) is h z = absurd (some-number h (read-number d (Silent n) b z))
-  answers (Addressed a k end (Words.Refused m)) is (misspelt c u v w) z = wrong a k end m is w (read-good d _ b z)
+  answers (Silent n p) is h z = absurd (some-number h (read-number d (Silent n p) b z))
+  answers (Addressed a k end (Words.Refused m p)) is (misspelt c u v w) z = wrong a k end m p is w (read-good d _ b z)
   answers (Addressed a k end (Words.Command c from)) is h z = obeys a k end from c is (read-good d _ b z)
 
   pub each-answer : P (step d l b)
@@ -114,7 +114,7 @@ pub every-answer : (P : Stepped → Type 0) (d : Device) (l b : List ℕ) → P 
     → ((k : ℕ) (c : Command) (es : List (List ℕ)) → good d ≡ true → refusal d k c ≡ 0 → Carried l c es → P (accepted d k es c b))
     → P (step d l b)
 every-answer P d l b quiet refused done =
-    each-answer P d l b (λ h. quiet) (λ a k end m is w g. refused m k g) (λ a k end from c is g h. refused (refusal d k c) k g)
+    each-answer P d l b (λ h. quiet) (λ a k end m p is w g. refused m k g) (λ a k end from c is g h. refused (refusal d k c) k g)
     (λ a k end from c is g e. done k c _ g e (carried-of l a k end from c is))
 
 -- A refusal, silent or replied, leaves the record as it was.
@@ -149,7 +149,7 @@ keeps-behind d l b =
 -- the data of a reply beside the number n, to words that were read for the axis k: the refusal's name; or, of a command that is
 -- accepted, its data, with the words that it carries
 abbrev pub dataFor : Device → List ℕ → ℕ → ℕ → WordsRead → ℕ → List ℕ
-dataFor d l k end (Words.Refused m) n = refusalName n
+dataFor d l k end (Words.Refused m p) n = refusalName n
 dataFor d l k end (Words.Command c from) n = cond (eqb n 0) (dataOf d k (carriedBy c (drop from (take end l))) c) (refusalName n)
 
 -- what an answer s leaves in the buffer, and the reply of its next record to what was read: for the axis that was sent, OK exactly
@@ -158,7 +158,7 @@ abbrev pub replyIn : Stepped → List ℕ
 replyIn s = take (s .answer .length) (s .buffer)
 
 abbrev pub replyTo : Device → List ℕ → LineRead → Stepped → List ℕ
-replyTo d l (Silent n) s = []
+replyTo d l (Silent n p) s = []
 replyTo d l (Addressed a k end w) s = replyOf (s .answer .next) k (eqb (s .answer .number) 0) (dataFor d l k end w (s .answer .number))
 
 -- "A reply describes the record after the command": whatever is read of the line, nothing else stands in the buffer.
@@ -167,7 +167,7 @@ pub reply-describes-next : (d : Device) (l b : List ℕ) → (step d l b .answer
 unfolding silent rejected accepted written
 reply-describes-next d l b =
     each-answer (λ s. (s .answer .length ≡ 0 → ⊥) → replyIn s ≡ replyTo d l (readLine l) s) d l b (λ n h. absurd (h refl))
-    (λ a k end m is w g h. rw is (rw (misspelt-some w) (front (replyOf d k false (refusalName m)))))
+    (λ a k end m p is w g h. rw is (rw (misspelt-some w) (front (replyOf d k false (refusalName m)))))
     (λ a k end from c is g r h. rw (is, ne-eqb (refusal d k c) 0 r) (front (replyOf d k false (refusalName (refusal d k c)))))
     (λ a k end from c is g e h.
     rw is (front (replyOf (next d k c) k true (dataOf d k (carriedBy c (drop from (take end l))) c))))

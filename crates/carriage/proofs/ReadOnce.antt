@@ -30,14 +30,14 @@ module _ (from end : ℕ) where
 
 -- ---- what is heard of what was read
 module _ (good : Bool) (r : LineRead) (room : ℕ) where
-  pub overheard-small : room < 96 → Silent 20 ≡ overheard good r room
+  pub overheard-small : room < 96 → Silent 20 255 ≡ overheard good r room
   overheard-small h = rw (lt-ltb room 96 h)
 
   module _ (h : 96 ≤ room) where
     pub overheard-read : good ≡ true → r ≡ overheard good r room
     overheard-read g = rw (le-ltb room 96 h, g)
 
-    pub overheard-bad : good ≡ false → Silent 21 ≡ overheard good r room
+    pub overheard-bad : good ≡ false → Silent 21 255 ≡ overheard good r room
     overheard-bad g = rw (le-ltb room 96 h, g)
 
 -- ---- the words that a line carries are all looked at
@@ -53,8 +53,8 @@ module _ (d : Device) (l b : List ℕ) where
 
   fitting-same : (r : LineRead) → readLine l ≡ r → respond d l (fitting r) b ≡ respond d l r b
   unfolding respond silence
-  fitting-same (Silent n) e = refl
-  fitting-same (Addressed a k end (Words.Refused m)) e = refl
+  fitting-same (Silent n p) e = refl
+  fitting-same (Addressed a k end (Words.Refused m p)) e = refl
   fitting-same (Addressed a k end (Words.Command c from)) e = rw (carried-all c from end (carried-near l a k end from c e))
 
   pub read-once : respondTo d l (readLine l) b ≡ step d l b

@@ -86,8 +86,8 @@ module _ (d : Device) (l b : List ℕ) where
 
 -- ---- the numbers of silence
 unread-small : (r : LineRead) → unread r ≤ numberOf r
-unread-small (Line.Silent n) = omega arith
-unread-small (Line.Addressed n k end (Words.Refused m)) = omega arith
+unread-small (Line.Silent n p) = omega arith
+unread-small (Line.Addressed n k end (Words.Refused m p)) = omega arith
 unread-small (Line.Addressed n k end (Words.Command c from)) = omega arith
 
 line-small : (l : List ℕ) → refusalOf l ≤ 11

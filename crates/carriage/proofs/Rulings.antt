@@ -10,18 +10,16 @@ use lib.ListN.{length, take, drop}
 use borrow.Author.Tests.{eq-eqb, eqb-true, ne-eqb, ltb-true, ltb-false, leb-true}
 use Rattle.laws.proofs.Bools.{not-true, clash}
 use Rattle.units.specs.Units.{place}
-use Rattle.words.specs.Cutting.{cut, headWord, tailWords, pastMany}
 use Rattle.command.specs.declared.Command.{Command}
 use Rattle.command.specs.declared.kinds.Demands.{Demands}
 use Rattle.command.specs.Commands.{demands, carriesWords}
 use Rattle.phrase.specs.declared.WordsRead.{WordsRead}
 use Rattle.phrase.specs.declared.WordsRead.the-variants as Words
-use Rattle.phrase.specs.Reading.{readCommand}
 use Rattle.line.specs.declared.LineRead.{LineRead}
 use Rattle.line.specs.declared.LineRead.the-variants as Line
 use Rattle.line.specs.declared.Opening.{Opening}
 use Rattle.line.specs.declared.Opening.the-variants as Opening
-use Rattle.line.specs.Reading.{axisDigit, axisOf, readLine, carriedBy}
+use Rattle.line.specs.Reading.{readLine, carriedBy}
 use Rattle.line.specs.Opening.{openLine, readOn}
 use Rattle.line.proofs.Opened.{opened-read}
 use Rattle.line.proofs.Carried.{carried-near}
@@ -36,7 +34,8 @@ use Rattle.carriage.specs.Step.{Stepped, silent, rejected, accepted, obe
 use Rattle.carriage.specs.ReadOnce.{endWithin, fitting, overheard}
 use Rattle.carriage.specs.Rulings.{foreign, heardOn, heard, ruleWords, rule}
 use Rattle.carriage.proofs.Fits.{echo-short, part-short, data-fits}
-use Rattle.carriage.proofs.Steps.{respond-silent, respond-mine, respond-other, respond-small, respond-bad}
+use Rattle.carriage.proofs.Steps.{respond-silent, respond-mine, respond-other, respond-not-mine, respond-small, respond-bad}
+use Rattle.carriage.proofs.Heard.{foreign-is}
 
 -- a ruling on words of which no more are looked at than fit
 abbrev pub fitted : Ruling → Ruling
@@ -82,8 +81,8 @@ module _ (d : Device) (l b : List ℕ) where
 
   -- the words of what was read fit
   abbrev Near : LineRead → Type 0
-  Near (Line.Silent n) = Unit
-  Near (Line.Addressed a k end (Words.Refused m)) = Unit
+  Near (Line.Silent n p) = Unit
+  Near (Line.Addressed a k end (Words.Refused m p)) = Unit
   Near (Line.Addressed a k end (Words.Command c from)) = carriesWords c ≡ true → end ≤ from + 74
 
   module _ (room : 96 ≤ length b) (g : good d ≡ true) where
@@ -112,10 +111,10 @@ module _ (d : Device) (l b : List ℕ) where
 
       words-come : (w : WordsRead) → Near (Line.Addressed a k end w) → Comes (Line.Addressed a k end w) (ruleWords d k end w)
       words-come (Words.Command c from) near = command-comes c from near
-      words-come (Words.Refused m) near = record { answers = respond-mine d l b room g a k end (Words.Refused m) h; fair = (room, g) }
+      words-come (Words.Refused m p) near = record { answers = respond-mine d l b room g a k end (Words.Refused m p) h; fair = (room, g) }
 
     read-comes : (r : LineRead) → Near r → Comes r (rule d r)
-    read-comes (Line.Silent n) near = record { answers = respond-silent d l b room g n; fair = tt }
+    read-comes (Line.Silent n p) near = record { answers = respond-silent d l b room g n p; fair = tt }
     read-comes (Line.Addressed a k end w) near = go (concerns d a) refl
       where
         go : (t : Bool) → concerns d a ≡ t → Comes (Line.Addressed a k end w) (cond t (ruleWords d k end w) (Silent 5))
@@ -124,49 +123,32 @@ module _ (d : Device) (l b : List ℕ) where
 
     -- a line that is read no further than a foreign address
     foreign-silent : (o : Opening) → foreign (place (d .comm .address .0)) o ≡ true → silent 5 d b ≡ respond d l (readOn l o) b
-    unfolding concerns axisOf
-    foreign-silent (Opening.Silent n) e = clash e refl
-    foreign-silent (Opening.Bare end) e = clash e refl
-    foreign-silent (Opening.To a at end) e = go (ltb (axisDigit (headWord ws)) 10)
-      where
-        s : List ℕ
-        s = take end l
-
-        ws : List (List ℕ)
-        ws = cut (drop at s)
-
-        other : concerns d a ≡ false
-        other = not-true _ e
-
-        go : (t : Bool) → silent 5 d b ≡ respond d l (cond t
-            (Line.Addressed a (axisDigit (headWord ws)) (length s) (readCommand (pastMany s at 3) (tailWords ws)))
-            (Line.Addressed a 0 (length s) (readCommand (pastMany s at 2) ws))) b
-        go true = respond-other d l b room g a _ (length s) _ other
-        go false = respond-other d l b room g a 0 (length s) _ other
+    foreign-silent o e = respond-not-mine d l b room g (readOn l o) (foreign-is d l o ∙ e)
 
     line-near : (r : LineRead) → readLine l ≡ r → Near r
-    line-near (Line.Silent n) e = tt
-    line-near (Line.Addressed a k end (Words.Refused m)) e = tt
+    line-near (Line.Silent n p) e = tt
+    line-near (Line.Addressed a k end (Words.Refused m p)) e = tt
     line-near (Line.Addressed a k end (Words.Command c from)) e = carried-near l a k end from c e
 
     heard-comes : (o : Opening) → readOn l o ≡ readLine l → Comes (readLine l) (rule d (heardOn (place (d .comm .address .0)) l o))
     heard-comes o q = go (foreign (place (d .comm .address .0)) o) refl
       where
-        go : (t : Bool) → foreign (place (d .comm .address .0)) o ≡ t → Comes (readLine l) (rule d (cond t (Line.Silent 5) (readOn l o)))
+        go : (t : Bool) → foreign (place (d .comm .address .0)) o ≡ t
+            → Comes (readLine l) (rule d (cond t (Line.Silent 5 255) (readOn l o)))
         go true e = record { answers = foreign-silent o e ∙ ap (λ (r : LineRead). respond d l r b) q; fair = tt }
         go false e = subst (λ (r : LineRead). Comes (readLine l) (rule d r)) (sym q) (read-comes (readLine l) (line-near (readLine l) refl))
 
   -- 20, 21, or what comes of a good record and a buffer with room
   unless-shut : (r x : LineRead) (f : Ruling → Ruling) → ((n : ℕ) → f (Silent n) ≡ Silent n)
       → (96 ≤ length b → good d ≡ true → Comes r (f (rule d x)))
-      → Comes r (f (rule d (cond (ltb (length b) 96) (Line.Silent 20) (cond (good d) x (Line.Silent 21)))))
+      → Comes r (f (rule d (cond (ltb (length b) 96) (Line.Silent 20 255) (cond (good d) x (Line.Silent 21 255)))))
   unless-shut r x f same heeds = small (ltb (length b) 96) refl
     where
-      bad : 96 ≤ length b → (t : Bool) → good d ≡ t → Comes r (f (rule d (cond t x (Line.Silent 21))))
+      bad : 96 ≤ length b → (t : Bool) → good d ≡ t → Comes r (f (rule d (cond t x (Line.Silent 21 255))))
       bad room true g = heeds room g
       bad room false g = subst (Comes r) (sym (same 21)) (record { answers = respond-bad d l r b room g; fair = tt })
 
-      small : (t : Bool) → ltb (length b) 96 ≡ t → Comes r (f (rule d (cond t (Line.Silent 20) (cond (good d) x (Line.Silent 21)))))
+      small : (t : Bool) → ltb (length b) 96 ≡ t → Comes r (f (rule d (cond t (Line.Silent 20 255) (cond (good d) x (Line.Silent 21 255)))))
       small true e = subst (Comes r) (sym (same 20)) (record { answers = respond-small d l r b (ltb-true (length b) 96 e); fair = tt })
       small false e = bad (ltb-false (length b) 96 e) (good d) refl
 
@@ -175,8 +157,8 @@ module _ (d : Device) (l b : List ℕ) where
   comes = unless-shut (readLine l) _ (λ x. x) (λ n. refl) (λ room g. heard-comes room g (openLine l) (opened-read l))
 
   rule-fitted : (r : LineRead) → rule d (fitting r) ≡ fitted (rule d r)
-  rule-fitted (Line.Silent n) = refl
-  rule-fitted (Line.Addressed a k end (Words.Refused m)) = go (concerns d a)
+  rule-fitted (Line.Silent n p) = refl
+  rule-fitted (Line.Addressed a k end (Words.Refused m p)) = go (concerns d a)
     where
       go : (t : Bool) → cond t (Rejected k m) (Silent 5) ≡ fitted (cond t (Rejected k m) (Silent 5))
       go true = refl
@@ -193,8 +175,8 @@ module _ (d : Device) (l b : List ℕ) where
       go false u = refl
 
   fitting-near : (r : LineRead) → Near (fitting r)
-  fitting-near (Line.Silent n) = tt
-  fitting-near (Line.Addressed a k end (Words.Refused m)) = tt
+  fitting-near (Line.Silent n p) = tt
+  fitting-near (Line.Addressed a k end (Words.Refused m p)) = tt
   fitting-near (Line.Addressed a k end (Words.Command c from)) = λ w. within-near from end
 
   -- and so does what is heard of what was read

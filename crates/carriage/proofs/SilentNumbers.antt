@@ -112,7 +112,7 @@ unfolding silent rejected accepted written
 silence-by-number d l b =
     each-answer (λ s. Silence (s .answer .number) → Unchanged d b s) d l b
     (λ h n. record { next = refl; length = refl; buffer = refl })
-    (λ a k end m is w g n. absurd (not-replied n (words-replied w)))
+    (λ a k end m p is w g n. absurd (not-replied n (words-replied w)))
     (λ a k end from c is g h n. absurd (not-replied n (device-replied d k c h)))
     (λ a k end from c is g e n. absurd (not-accepted n))
 
@@ -122,6 +122,6 @@ unfolding silent rejected accepted written
 no-reply-is-silence d l b =
     each-answer (λ s. s .answer .length ≡ 0 → Silence (s .answer .number)) d l b
     (λ h e. silence-number d l b h)
-    (λ a k end m is w g e. absurd (reply-some d k false _ e))
+    (λ a k end m p is w g e. absurd (reply-some d k false _ e))
     (λ a k end from c is g h e. absurd (reply-some d k false _ e))
     (λ a k end from c is g z e. absurd (reply-some _ k true _ e))

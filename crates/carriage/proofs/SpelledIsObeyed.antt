@@ -32,8 +32,8 @@ record Heard (l : List ℕ) (r : LineRead) (a : Asked) : Type 0 where
   echo : carriedBy (a .command) (drop from (take end l)) ≡ a .echo
 
 heard-as : (l : List ℕ) (r : LineRead) (a : Asked) → askedBy l r ≡ some a → Heard l r a
-heard-as l (Silent n) a e = no-asked e
-heard-as l (Addressed n k end (Words.Refused m)) a e = no-asked e
+heard-as l (Silent n p) a e = no-asked e
+heard-as l (Addressed n k end (Words.Refused m p)) a e = no-asked e
 heard-as l (Addressed n k end (Words.Command c from)) a e =
     let q : record { address = n; axis = k; command = c; echo = carriedBy c (drop from (take end l)) } ≡ a = cc in
     rw (← q) (record { end = end; from = from; read = refl; echo = refl })

@@ -8,13 +8,14 @@ use lib.Dec.{eqb}
 use lib.ListN.{length}
 use borrow.Author.Tests.{lt-ltb, le-ltb}
 use Rattle.laws.specs.Refusals.{firstOf}
+use Rattle.laws.proofs.Bools.{not-true, clash}
 use Rattle.phrase.specs.declared.WordsRead.{WordsRead}
 use Rattle.line.specs.declared.LineRead.{LineRead}
 use Rattle.line.specs.declared.LineRead.the-variants.{Silent, Addressed}
 use Rattle.device.specs.declared.Device.{Device}
 use Rattle.device.specs.Good.{good}
 use Rattle.carriage.specs.declared.Answer.{Answer}
-use Rattle.carriage.specs.Step.{Stepped, Gives, silent, concerns, addressed, silence, respond}
+use Rattle.carriage.specs.Step.{Stepped, Gives, silent, concerns, addressed, notMine, silence, respond}
 
 pub gives-as : {s t : Stepped} {r : Answer} {c : List ℕ} → s ≡ t → Gives s r c → Gives t r c
 gives-as {r = r} {c = c} e g = subst (λ (x : Stepped). Gives x r c) e g
@@ -26,9 +27,9 @@ silent-gives n d b e = record { result = e; left = refl }
 
 -- a good record and a buffer with room
 module _ (d : Device) (l b : List ℕ) (room : 96 ≤ length b) (g : good d ≡ true) where
-  pub respond-silent : (n : ℕ) → silent n d b ≡ respond d l (Silent n) b
+  pub respond-silent : (n p : ℕ) → silent n d b ≡ respond d l (Silent n p) b
   unfolding respond silence firstOf
-  respond-silent n = rw (le-ltb (length b) 96 room, g) (go (eqb n 0) refl)
+  respond-silent n p = rw (le-ltb (length b) 96 room, g) (go (eqb n 0) refl)
     where
       go : (t : Bool) → eqb n 0 ≡ t
           → silent n d b ≡ cond (eqb (cond (not t) n (cond false 5 0)) 0) (silent n d b) (silent (cond (not t) n (cond false 5 0)) d b)
@@ -43,6 +44,10 @@ module _ (d : Device) (l b : List ℕ) (room : 96 ≤ length b) (g : good d ≡ 
     pub respond-other : concerns d a ≡ false → silent 5 d b ≡ respond d l (Addressed a k end w) b
     unfolding respond silence firstOf
     respond-other h = rw (le-ltb (length b) 96 room, g, h)
+
+  pub respond-not-mine : (r : LineRead) → notMine d r ≡ true → silent 5 d b ≡ respond d l r b
+  respond-not-mine (Silent n p) h = clash h refl
+  respond-not-mine (Addressed a k end w) h = respond-other a k end w (not-true (concerns d a) h)
 
 -- no room, or a record that is not good
 module _ (d : Device) (l : List ℕ) (r : LineRead) (b : List ℕ) where

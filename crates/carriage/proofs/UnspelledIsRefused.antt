@@ -64,11 +64,11 @@ module _ {l : List ℕ} (d : Device) (b : List ℕ) where
   -- a good record and a buffer with room: the reader's number, or 5
   module _ (room : 96 ≤ length b) (g : good d ≡ true) (unwritten : (a : Asked) → Line l a → ⊥) where
     heard-refused : {r : LineRead} → Reads l r → Refused d (respond d l r b)
-    heard-refused (unframed h none) = answers (respond-silent d l b room g _) (quiet d b (of-frame h))
-    heard-refused (misaddressed c h) = answers (respond-silent d l b room g _) (quiet d b bad-address)
-    heard-refused (misspelt {m = m} {n = n} {k = k} {end = end} c h none x) = go (concerns d n) refl
+    heard-refused (unframed h none) = answers (respond-silent d l b room g _ _) (quiet d b (of-frame h))
+    heard-refused (misaddressed c h) = answers (respond-silent d l b room g _ _) (quiet d b bad-address)
+    heard-refused (misspelt {m = m} {p = p} {n = n} {k = k} {end = end} c h none x) = go (concerns d n) refl
       where
-        go : (t : Bool) → concerns d n ≡ t → Refused d (respond d l (Addressed n k end (WordsRead.Refused m)) b)
+        go : (t : Bool) → concerns d n ≡ t → Refused d (respond d l (Addressed n k end (WordsRead.Refused m p)) b)
         go true e = answers (respond-mine d l b room g n k end _ e) (aloud d b k (of-words x))
         go false e = answers (respond-other d l b room g n k end _ e) (quiet d b not-mine)
     heard-refused (spelled w) = absurd (unwritten _ w)

@@ -4,7 +4,7 @@ use mathlib.Core.Bool.{Bool, cond}
 use mathlib.Core.List.{List}
 use Prim.Native.Nat.{ℕ, _+_}
 use lib.Dec.{leb, ltb}
-use Rattle.laws.specs.Refusals.{NOROOM, BADSTATE}
+use Rattle.laws.specs.Refusals.{NOROOM, BADSTATE, NOWHERE}
 use Rattle.phrase.specs.declared.WordsRead.the-variants as Words
 use Rattle.line.specs.declared.LineRead.{LineRead}
 use Rattle.line.specs.declared.LineRead.the-variants.{Silent, Addressed}
@@ -21,8 +21,8 @@ endWithin from end = cond (leb end (from + mostWords)) end (from + mostWords)
 
 -- what is read is handed over with a line, whatever line that is: of its words no more are looked at than fit
 abbrev pub fitting : LineRead → LineRead
-fitting (Silent n) = Silent n
-fitting (Addressed a k end (Words.Refused m)) = Addressed a k end (Words.Refused m)
+fitting (Silent n p) = Silent n p
+fitting (Addressed a k end (Words.Refused m p)) = Addressed a k end (Words.Refused m p)
 fitting (Addressed a k end (Words.Command c from)) = Addressed a k (endWithin from end) (Words.Command c from)
 
 unfoldable pub respondTo : Device → List ℕ → LineRead → List ℕ → Stepped
@@ -30,4 +30,4 @@ respondTo d l r b = respond d l (fitting r) b
 
 -- what a device hears of it: 20 or 21 where there is no room for a reply, or its record is not good
 abbrev pub overheard : Bool → LineRead → ℕ → LineRead
-overheard good r room = cond (ltb room longestReply) (Silent NOROOM) (cond good r (Silent BADSTATE))
+overheard good r room = cond (ltb room longestReply) (Silent NOROOM NOWHERE) (cond good r (Silent BADSTATE NOWHERE))

@@ -4,7 +4,7 @@ use mathlib.Core.Bool.{Bool, false, cond, not, _||_}
 use mathlib.Core.List.{List}
 use Prim.Native.Nat.{ℕ}
 use lib.Dec.{eqb, ltb}
-use Rattle.laws.specs.Refusals.{NOROOM, BADSTATE, NOTMINE}
+use Rattle.laws.specs.Refusals.{NOROOM, BADSTATE, NOTMINE, NOWHERE}
 use Rattle.command.specs.Commands.{demands}
 use Rattle.phrase.specs.declared.WordsRead.{WordsRead}
 use Rattle.phrase.specs.declared.WordsRead.the-variants as Words
@@ -24,27 +24,29 @@ use Rattle.carriage.specs.Step.{concerns, wantsSum}
 
 -- an address that is neither 0 nor the device's own
 abbrev pub foreign : ℕ → Opening → Bool
-foreign own (Opening.Silent n) = false
+foreign own (Opening.Silent n p) = false
 foreign own (Opening.Bare end) = false
 foreign own (Opening.To a at end) = not (eqb a 0 || eqb a own)
 
 -- a line of which no more is read than its address, where that is foreign
 abbrev pub heardOn : ℕ → List ℕ → Opening → LineRead
-heardOn own l o = cond (foreign own o) (Line.Silent NOTMINE) (readOn l o)
+heardOn own l o = cond (foreign own o) (Line.Silent NOTMINE NOWHERE) (readOn l o)
 
 -- what a device of this address hears of the line l: nothing but 20 or 21 where there is no room for a reply, or its record is not good
 abbrev pub heard : ℕ → Bool → List ℕ → ℕ → LineRead
-heard own good l room = cond (ltb room longestReply) (Line.Silent NOROOM) (cond good (heardOn own l (openLine l)) (Line.Silent BADSTATE))
+heard own good l room =
+    cond (ltb room longestReply) (Line.Silent NOROOM NOWHERE)
+    (cond good (heardOn own l (openLine l)) (Line.Silent BADSTATE NOWHERE))
 
 -- the reader's 10 or 11, or the first refusal that its command meets, or none
 abbrev pub ruleWords : Device → ℕ → ℕ → WordsRead → Ruling
-ruleWords d k end (Words.Refused n) = Rejected k n
+ruleWords d k end (Words.Refused n p) = Rejected k n
 ruleWords d k end (Words.Command c from) =
     cond (eqb (refusal d k c) 0) (Accepted k from end c (demands c)) (Rejected k (refusal d k c))
 
 -- the reader's silence; or 5 where the line does not concern the device; or what its words come to
 abbrev pub rule : Device → LineRead → Ruling
-rule d (Line.Silent n) = Silent n
+rule d (Line.Silent n p) = Silent n
 rule d (Line.Addressed a k end w) = cond (concerns d a) (ruleWords d k end w) (Silent NOTMINE)
 
 -- what a reply has of its record besides the data

@@ -1,19 +1,19 @@
 -- What a line makes of a record and a buffer: number, length, next record and every byte. Document 01's table of refusals
 -- in its order: 20, 21, 2, 1, 3, 4, 5 (silence), 10, 11 (the reader), 12, 13, 14, 15, 16, 11 (the device).
 use mathlib.Core.Path.{_≡_}
-use mathlib.Core.Bool.{Bool, true, false, cond, not, _||_}
+use mathlib.Core.Bool.{Bool, true, false, cond, not, _&&_, _||_}
 use mathlib.Core.List.{List, [], _∷_, _++_}
 use Prim.Native.Nat.{ℕ}
 use lib.Dec.{eqb, ltb}
 use lib.ListN.{length, take, drop}
-use Rattle.laws.specs.Refusals.{_when_, firstOf, NOROOM, BADSTATE, NOTMINE}
+use Rattle.laws.specs.Refusals.{_when_, firstOf, NOROOM, BADSTATE, NOTMINE, NOWHERE}
 use Rattle.units.specs.Units.{place}
 use Rattle.command.specs.declared.Command.{Command}
 use Rattle.phrase.specs.declared.WordsRead.{WordsRead}
 use Rattle.phrase.specs.declared.WordsRead.the-variants as Words
 use Rattle.line.specs.declared.LineRead.{LineRead}
 use Rattle.line.specs.declared.LineRead.the-variants.{Silent, Addressed}
-use Rattle.line.specs.Reading.{readLine, carriedBy}
+use Rattle.line.specs.Reading.{readLine, placeRead, carriedBy}
 use Rattle.device.specs.declared.Device.{Device}
 use Rattle.device.specs.Good.{good}
 use Rattle.rules.specs.Refusals.{refusal}
@@ -67,11 +67,11 @@ concerns d n = eqb n 0 || eqb n (place (d .comm .address .0))
 
 -- the silent refusals of what was read: the reader's 2, 1, 3 or 4; and 5
 abbrev pub unread : LineRead → ℕ
-unread (Silent n) = n
+unread (Silent n p) = n
 unread (Addressed n k end w) = 0
 
 abbrev pub notMine : Device → LineRead → Bool
-notMine d (Silent n) = false
+notMine d (Silent n p) = false
 notMine d (Addressed n k end w) = not (concerns d n)
 
 -- "Checks run in the table's order and the first that applies wins."
@@ -86,12 +86,12 @@ silence d r b =
 
 -- the reader's 10 or 11; or its command, and the words that it carries, which stand in the line l from a place up to another
 abbrev pub addressed : Device → List ℕ → ℕ → ℕ → WordsRead → List ℕ → Stepped
-addressed d l k end (Words.Refused m) b = rejected m d k b
+addressed d l k end (Words.Refused m p) b = rejected m d k b
 addressed d l k end (Words.Command c from) b = obeyed d k (carriedBy c (drop from (take end l))) c b
 
 -- what is not met with silence
 abbrev pub answered : Device → List ℕ → LineRead → List ℕ → Stepped
-answered d l (Silent n) b = silent n d b
+answered d l (Silent n p) b = silent n d b
 answered d l (Addressed n k end w) b = addressed d l k end w b
 
 -- what was read, whatever line it was read from
@@ -101,6 +101,10 @@ respond d l r b = cond (eqb (silence d r b) 0) (answered d l r b) (silent (silen
 -- the device, a line's bytes and the lent buffer: the line is read, ruled and answered
 unfoldable pub step : Device → List ℕ → List ℕ → Stepped
 step d l b = respond d l (readLine l) b
+
+-- order 3: the place in the line that goes with its refusal: the reader's, unless the record is not good or the line is another's
+unfoldable pub refusedAt : Device → List ℕ → ℕ
+refusedAt d l = cond (good d && not (notMine d (readLine l))) (placeRead (readLine l)) NOWHERE
 
 -- a result and a buffer that are just what a step makes
 pub record Gives (s : Stepped) (r : Answer) (c : List ℕ) : Type 0 where

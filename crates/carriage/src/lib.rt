@@ -6,7 +6,7 @@ ghost use lib.ListN.{length};
 ghost use Rattle.reply.specs.Reply.{longestReply, reply as replyText};
 ghost use Rattle.reply.specs.Told.{toldText};
 ghost use Rattle.carriage.specs.Report.{report as reportOf};
-ghost use Rattle.carriage.specs.Step.{Replied, Gives, concerns as concernsOf, step as stepOf};
+ghost use Rattle.carriage.specs.Step.{Replied, Gives, concerns as concernsOf, step as stepOf, refusedAt};
 ghost use Rattle.carriage.specs.ReadOnce.{endWithin, overheard, respondTo};
 ghost use Rattle.carriage.specs.Rulings.{foreign as foreignTo, heard, headingOf, ruleWords, rule as ruleOf};
 use crate::effects::next;
@@ -18,6 +18,7 @@ use laws::ACCEPTED;
 use laws::BADSTATE;
 use laws::NOROOM;
 use laws::NOTMINE;
+use laws::NOWHERE;
 use line::LineRead;
 use line::Opening;
 use phrase::WordsRead;
@@ -67,7 +68,7 @@ fn foreign(own: u64, o: Opening) -> bool
     ensures { λ r. ⌜ r ≡ foreignTo own o ⌝ }
 {
     match o {
-        Opening::Silent(_) => false,
+        Opening::Silent(_, _) => false,
         Opening::Bare(_) => false,
         Opening::To(a, _, _) => !((a == 0) | (a == own)),
     }
@@ -78,14 +79,14 @@ fn hear(own: u64, good: bool, line: &[u8], room: usize) -> LineRead
     ensures { λ r. ⌜ r ≡ heard own good (now (line .entry)) room ⌝ }
 {
     if room < LONGEST_REPLY {
-        return LineRead::Silent(NOROOM);
+        return LineRead::Silent(NOROOM, NOWHERE);
     }
     if !good {
-        return LineRead::Silent(BADSTATE);
+        return LineRead::Silent(BADSTATE, NOWHERE);
     }
     let o = line::reading::open_line(line);
     if foreign(own, o) {
-        return LineRead::Silent(NOTMINE);
+        return LineRead::Silent(NOTMINE, NOWHERE);
     }
     line::reading::read_line(line, o)
 }
@@ -105,7 +106,7 @@ fn rule_words(d: Device, k: u64, end: usize, w: WordsRead) -> Ruling
     ensures { λ r. ⌜ r ≡ ruleWords d k end w ⌝ }
 {
     match w {
-        WordsRead::Refused(n) => Ruling::Rejected(k, n),
+        WordsRead::Refused(n, _) => Ruling::Rejected(k, n),
         WordsRead::Command(c, from) => {
             let x = rules::refusals::rule(d, k, c);
             let demands = x.demands;
@@ -118,12 +119,20 @@ fn rule_words(d: Device, k: u64, end: usize, w: WordsRead) -> Ruling
     }
 }
 
+// The place in a line that goes with this device's refusal of it, counted from 0 at the `/`; 255 where it has none.
+pub fn refused_at(d: Device, line: &[u8]) -> u8
+    ensures { λ r. ⌜ r ≡ refusedAt d (now (line .entry)) ⌝ }
+{
+    let own = d.comm.address.place() as u64;
+    hear(own, d.good(), line, LONGEST_REPLY).place()
+}
+
 // What was read comes to this for the record.
 pub fn rule(d: Device, r: LineRead) -> Ruling
     ensures { λ x. ⌜ x ≡ ruleOf d r ⌝ }
 {
     match r {
-        LineRead::Silent(n) => Ruling::Silent(n),
+        LineRead::Silent(n, _) => Ruling::Silent(n),
         LineRead::Addressed(address, axis, end, w) => {
             if concerns(d, address) {
                 rule_words(d, axis, end, w)
@@ -178,13 +187,17 @@ pub fn step(mut d: Device, line: &[u8], reply: &mut [u8]) -> Answer
 }
 
 // What a device hears of what was read: 20 or 21 where there is no room for a reply, or its record is not good.
-fn overhear(good: bool, r: LineRead, rest: usize) -> LineRead
-    ensures { λ x. ⌜ x ≡ overheard good r rest ⌝ }
+fn overhear(good: bool, read: LineRead, rest: usize) -> LineRead
+    ensures { λ r. ⌜ r ≡ overheard good read rest ⌝ }
 {
     if rest < LONGEST_REPLY {
-        return LineRead::Silent(NOROOM);
+        return LineRead::Silent(NOROOM, NOWHERE);
     }
-    if good { r } else { LineRead::Silent(BADSTATE) }
+    if good {
+        read
+    } else {
+        LineRead::Silent(BADSTATE, NOWHERE)
+    }
 }
 
 // The end of words that begin at `from`: no more of them are looked at than a reply has room for.

@@ -53,8 +53,8 @@ obeying d k es c = go (eqb (refusal d k c) 0)
     go false = rejecting (refusal d k c) d k
 
 answering : (d : Device) (l : List ℕ) (r : LineRead) → Writes (answered d l r)
-answering d l (Silent n) = quietly n d
-answering d l (Addressed a k end (Words.Refused m)) = rejecting m d k
+answering d l (Silent n p) = quietly n d
+answering d l (Addressed a k end (Words.Refused m p)) = rejecting m d k
 answering d l (Addressed a k end (Words.Command c from)) = obeying d k (carriedBy c (drop from (take end l))) c
 
 pub blank-room : length blank ≡ 96
@@ -117,7 +117,7 @@ module _ (d : Device) (l : List ℕ) where
 -- words that are answered have a reply
 words-some : (d : Device) (l : List ℕ) (k end : ℕ) (w : WordsRead) → addressed d l k end w blank .answer .length ≡ 0 → ⊥
 unfolding rejected accepted written obeyed
-words-some d l k end (Words.Refused m) e = reply-some d k false (refusalName m) e
+words-some d l k end (Words.Refused m p) e = reply-some d k false (refusalName m) e
 words-some d l k end (Words.Command c from) e = go (eqb (refusal d k c) 0) e
   where
     es : List (List ℕ)
@@ -131,12 +131,12 @@ words-some d l k end (Words.Command c from) e = go (eqb (refusal d k c) 0) e
 module _ (d : Device) (l : List ℕ) (g : good d ≡ true) where
   -- that the line does not concern: silence
   quiet : (r : LineRead) → heeds d r ≡ false → (n : ℕ) × (respond d l r blank ≡ silent n d blank)
-  quiet (Silent n) h = (n, sym (respond-silent d l blank roomy g n))
+  quiet (Silent n p) h = (n, sym (respond-silent d l blank roomy g n p))
   quiet (Addressed a k end w) h = (5, sym (respond-other d l blank roomy g a k end w h))
 
   quiet-told : (r : LineRead) (h : heeds d r ≡ false) → quiet r h .0 ≡ told r 0 .number
   unfolding quiet
-  quiet-told (Silent n) h = refl
+  quiet-told (Silent n p) h = refl
   quiet-told (Addressed a k end w) h = refl
 
   module _ (h : heeds d (readLine l) ≡ false) where
@@ -155,7 +155,7 @@ module _ (d : Device) (l : List ℕ) (g : good d ≡ true) where
   -- that it concerns: a reply
   pub aloud-text : (r : LineRead) → readLine l ≡ r → heeds d r ≡ true → length (textOf l d) ≡ 0 → ⊥
   unfolding step
-  aloud-text (Silent n) e h z = let q : _≡_ {A = ℕ} 0 1 = cc in absurd (omega arith)
+  aloud-text (Silent n p) e h z = let q : _≡_ {A = ℕ} 0 1 = cc in absurd (omega arith)
   aloud-text (Addressed a k end w) e h z =
       words-some d l k end w
       (ap (λ (x : Stepped). x .answer .length) (respond-mine d l blank roomy g a k end w h ∙ ap (λ (r : LineRead). respond d l r blank)

@@ -131,15 +131,15 @@ module _ (l : List ℕ) where
       })
 
   -- a refusal is heeded by none
-  unheeded : (xs : List Device) (n k : ℕ) (b : List ℕ)
-      → run l xs (record { read = Silent n; place = k }) b ≡ record {
+  unheeded : (xs : List Device) (n p k : ℕ) (b : List ℕ)
+      → run l xs (record { read = Silent n p; place = k }) b ≡ record {
         devices = xs;
-        pass = record { read = Silent n; place = k };
+        pass = record { read = Silent n p; place = k };
         buffer = b;
       }
   unfolding run
-  unheeded [] n k b = refl
-  unheeded (d ∷ ds) n k b = rw (taken-idle l d (record { read = Silent n; place = k }) b refl, unheeded ds n k b)
+  unheeded [] n p k b = refl
+  unheeded (d ∷ ds) n p k b = rw (taken-idle l d (record { read = Silent n p; place = k }) b refl, unheeded ds n p k b)
 
   -- ---- the number: "5 if it concerns none, else 0"
   module _ (a k end : ℕ) (w : WordsRead) (is : readLine l ≡ Addressed a k end w) where
@@ -161,8 +161,8 @@ module _ (l : List ℕ) where
       → told r (length (texts l xs)) .number ≡ numberOf l xs
   unfolding numberOf firstOf fold
   told-number xs g some (Addressed a k end w) e = rw (e, no-text a k end w e xs g)
-  told-number [] g some (Silent n) e = absurd (some refl)
-  told-number (d ∷ ds) g some (Silent n) e = rw e (go (eqb n 0) refl)
+  told-number [] g some (Silent n p) e = absurd (some refl)
+  told-number (d ∷ ds) g some (Silent n p) e = rw e (go (eqb n 0) refl)
     where
       go : (t : Bool) → eqb n 0 ≡ t → n ≡ cond (not t) n 0
       go true q = eqb-true n 0 q
@@ -170,8 +170,8 @@ module _ (l : List ℕ) where
 
 -- ---- what is told at the end
 module _ {r : LineRead} (place : ℕ) where
-  pub told-silent : (n : ℕ) → r ≡ Silent n → record { number = n; length = place } ≡ told r place
-  told-silent n e = rw e
+  pub told-silent : (n p : ℕ) → r ≡ Silent n p → record { number = n; length = place } ≡ told r place
+  told-silent n p e = rw e
 
   module _ (a k end : ℕ) (w : WordsRead) (e : r ≡ Addressed a k end w) where
     pub told-none : place ≡ 0 → record { number = 5; length = place } ≡ told r place
@@ -181,7 +181,7 @@ module _ {r : LineRead} (place : ℕ) where
     told-some z = rw (e, ne-eqb place 0 z)
 
 told-length : (r : LineRead) (k : ℕ) → told r k .length ≡ k
-told-length (Silent n) k = refl
+told-length (Silent n p) k = refl
 told-length (Addressed a i end w) k = refl
 
 -- ---- the refusals, as the tests of the code have them
@@ -220,7 +220,7 @@ module _ (l : List ℕ) {m n : ℕ} (e : n ≡ m) where
   pub begun-read : n ≡ 0 → {o : Opening} {r : LineRead} → o ≡ openLine l → r ≡ readOn l o → record { read = r; place = 0 } ≡ begun m l
   begun-read z p q = rw (← e, eq-eqb n 0 z) (ap (λ (x : LineRead). record { read = x; place = 0 }) (q ∙ ap (readOn l) p ∙ opened-read l))
 
-  pub begun-refused : (n ≡ 0 → ⊥) → record { read = Silent n; place = 0 } ≡ begun m l
+  pub begun-refused : (n ≡ 0 → ⊥) → record { read = Silent n 255; place = 0 } ≡ begun m l
   begun-refused z = rw (← e, ne-eqb n 0 z)
 
 -- ---- no refusal
@@ -253,7 +253,7 @@ module _ (xs : List Device) (l b : List ℕ) {g : Bool} {p : Pass} (e : g ≡ al
       where
         start : (t : Bool) → eqb (refused xs (length b)) 0 ≡ t → p ≡ record {
           read = cond t (readLine l)
-              (Silent (refused xs (length b)));
+              (Silent (refused xs (length b)) 255);
           place = 0;
         }
         start t h = begins ∙ rw h
@@ -278,7 +278,7 @@ module _ (xs : List Device) (l b : List ℕ) {g : Bool} {p : Pass} (e : g ≡ al
               left = w .buffer ∙ t .buffer ∙ rw (at, zero-add);
             }
         go false h =
-            let i = ap (λ (x : Pass). run l xs x b) (start false h) ∙ unheeded l xs (refused xs (length b)) 0 b in
+            let i = ap (λ (x : Pass). run l xs x b) (start false h) ∙ unheeded l xs (refused xs (length b)) 255 0 b in
             record {
               result = k ∙ ap (λ (x : Run). told (x .pass .read) (x .pass .place))
                   (ap (λ (x : Pass). record { devices = xs; pass = x; buffer = b }) (w .pass ∙ ap (λ (x : Run). x .pass) i));

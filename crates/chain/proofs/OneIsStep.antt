@@ -61,7 +61,7 @@ module _ (d : Device) (l b : List ℕ) where
         ∙ go (heeds d (readLine l)) refl
       where
         loud : (r : LineRead) → heeds d r ≡ true → (k : ℕ) → (k ≡ 0 → ⊥) → told r k .number ≡ 0
-        loud (Silent n) e k h = clash e refl
+        loud (Silent n p) e k h = clash e refl
         loud (Addressed a i end w) e k h = rw (ne-eqb k 0 h)
 
         go : (t : Bool) → heeds d (readLine l) ≡ t

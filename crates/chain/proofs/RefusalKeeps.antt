@@ -47,11 +47,11 @@ module _ (l : List ℕ) where
           let rest = ih (omega (arith, z, length-append (textOf l d) (texts l ds))) in
           (rw (quiet-next d l one e, rest .0), rw (quiet-text d l one e) (rest .1))
 
-  silent-texts : (n : ℕ) → readLine l ≡ Silent n → (xs : List Device) → all good xs ≡ true → length (texts l xs) ≡ 0
+  silent-texts : (n p : ℕ) → readLine l ≡ Silent n p → (xs : List Device) → all good xs ≡ true → length (texts l xs) ≡ 0
   unfolding fold joined
-  silent-texts n e [] g = refl
-  silent-texts n e (d ∷ ds) g =
-      rw (quiet-text d l (and-left (good d) (all good ds) g) (rw e refl)) (silent-texts n e ds (and-right (good d) (all good ds) g))
+  silent-texts n p e [] g = refl
+  silent-texts n p e (d ∷ ds) g =
+      rw (quiet-text d l (and-left (good d) (all good ds) g) (rw e refl)) (silent-texts n p e ds (and-right (good d) (all good ds) g))
 
   -- where the number is not 0, no record has answered
   no-texts : (xs : List Device) → all good xs ≡ true → (length xs ≡ 0 → ⊥) → (numberOf l xs ≡ 0 → ⊥) → length (texts l xs) ≡ 0
@@ -61,7 +61,7 @@ module _ (l : List ℕ) where
       k = length (texts l xs)
 
       go : (r : LineRead) → readLine l ≡ r → k ≡ 0
-      go (Silent n) e = silent-texts n e xs g
+      go (Silent n p) e = silent-texts n p e xs g
       go (Addressed a i end w) e = test (eqb k 0) refl
         where
           number : cond (eqb k 0) 5 0 ≡ numberOf l xs

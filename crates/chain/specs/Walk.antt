@@ -6,7 +6,7 @@ use mathlib.Core.List.{List, [], _∷_, _++_}
 use Prim.Native.Nat.{ℕ, _+_, _≤_}
 use lib.Dec.{eqb}
 use lib.ListN.{length, take, drop}
-use Rattle.laws.specs.Refusals.{NOTMINE}
+use Rattle.laws.specs.Refusals.{NOTMINE, NOWHERE}
 use Rattle.line.specs.declared.LineRead.{LineRead}
 use Rattle.line.specs.declared.LineRead.the-variants.{Silent, Addressed}
 use Rattle.line.specs.Reading.{readLine}
@@ -26,7 +26,7 @@ pub record Taken : Type 0 where
 
 -- "each record that the line concerns": by its address before the line
 abbrev pub heeds : Device → LineRead → Bool
-heeds d (Silent n) = false
+heeds d (Silent n p) = false
 heeds d (Addressed a k end w) = concerns d a
 
 -- what it answers in the rest of the buffer
@@ -78,8 +78,8 @@ pub record Walked (l : List ℕ) (p : Pass) (xs ys : List Device) (b c : List �
 
 -- what is read of the line for the whole chain: nothing but its number, where the chain is refused
 abbrev pub begun : ℕ → List ℕ → Pass
-begun refused l = record { read = cond (eqb refused 0) (readLine l) (Silent refused); place = 0 }
+begun refused l = record { read = cond (eqb refused 0) (readLine l) (Silent refused NOWHERE); place = 0 }
 
 abbrev pub told : LineRead → ℕ → Told
-told (Silent n) place = record { number = n; length = place }
+told (Silent n p) place = record { number = n; length = place }
 told (Addressed a k end w) place = record { number = cond (eqb place 0) NOTMINE 0; length = place }

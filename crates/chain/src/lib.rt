@@ -13,6 +13,7 @@ use laws::ACCEPTED;
 use laws::BADSTATE;
 use laws::NOROOM;
 use laws::NOTMINE;
+use laws::NOWHERE;
 use line::LineRead;
 use reply::LONGEST_REPLY;
 
@@ -43,7 +44,7 @@ fn heeds(d: Device, p: Pass) -> bool
 {
     let read = p.read;
     match read {
-        LineRead::Silent(_) => false,
+        LineRead::Silent(_, _) => false,
         LineRead::Addressed(address, _, _, _) => carriage::concerns(d, address),
     }
 }
@@ -88,7 +89,7 @@ fn begin(n: usize, room: usize, good: bool, line: &[u8]) -> Pass
     let read = if refused == 0 {
         line::reading::read_line(line, line::reading::open_line(line))
     } else {
-        LineRead::Silent(refused)
+        LineRead::Silent(refused, NOWHERE)
     };
     Pass { read, place: 0 }
 }
@@ -100,7 +101,7 @@ fn finish(p: Pass) -> Told
     let read = p.read;
     let length = p.place;
     let number = match read {
-        LineRead::Silent(n) => n,
+        LineRead::Silent(n, _) => n,
         LineRead::Addressed(_address, _, _, _) => if length == 0 { NOTMINE } else { ACCEPTED },
     };
     Told { number, length }

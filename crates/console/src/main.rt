@@ -1,8 +1,9 @@
 // The program console: answers standard input line by line as it arrives, and keeps the record from one line to the next.
-// For a person at a terminal, or behind a serial line. Each part is answered as bench answers it: `session::turn`.
+// For a person at a terminal, or behind a serial line. Each part is answered as bench answers it, and where a line went wrong at
+// one of its bytes, a caret stands under that byte: `session::show`.
 ghost use mathlib.Core.Path.{_≡_};
 ghost use Rattle.io.specs.Counts.{Counts};
-ghost use Rattle.session.specs.Bench.{turn as turnOf};
+ghost use Rattle.session.specs.Bench.{shown};
 use device::Device;
 
 // A byte of standard input, where there is one.
@@ -47,12 +48,12 @@ fn read_part(buf: &mut [u8]) -> Part
     Part { kept, more: false }
 }
 
-// Prints what a part makes of a record, and hands on the next one. What one part prints has at most 96 bytes.
+// Shows what a part makes of a record, and hands on the next one. What is shown of one part has at most 177 bytes.
 fn answer(d: Device, part: &[u8]) -> Device
-    ensures { λ r. ⌜ r ≡ turnOf d (now (part .entry)) .next ⌝ }
+    ensures { λ r. ⌜ r ≡ shown d (now (part .entry)) .next ⌝ }
 {
-    let mut out = [0u8; 96];
-    let t = session::turn(d, part, &mut out, 0);
+    let mut out = [0u8; 177];
+    let t = session::show(d, part, &mut out, 0);
     io::write_all(libc::STDOUT_FILENO, &out[..t.place]);
     t.next
 }

@@ -5,10 +5,11 @@ ghost use Prim.Native.Nat.{_+_};
 ghost use lib.ListN.{drop};
 ghost use Rattle.buffer.specs.Wrote.{Wrote};
 ghost use Rattle.input.specs.Parts.{firstPart};
-ghost use Rattle.input.specs.Prints.{isReport, told, answered};
+ghost use Rattle.input.specs.Prints.{isReport, told, answered, caret};
 use buffer::put_byte;
 use buffer::put_number;
 use buffer::put_text;
+use laws::NOWHERE;
 use units::lesser;
 
 // The place behind the first LF from `at` on, or the end.
@@ -53,4 +54,20 @@ pub fn put_answer(out: &mut [u8], at: usize, number: u8, long: usize, reply: &[u
     } else {
         put_text(out, at, &reply[..lesser(long, reply.len())])
     }
+}
+
+// A caret under the byte at a place of the line above, and LF; nothing where no place is told.
+pub fn put_caret(out: &mut [u8], at: usize, place: u8) -> usize
+    ensures { λ r. ⌜ Wrote (now (out .entry)) at (caret place) (now (out .exit)) r ⌝ }
+{
+    if place == NOWHERE {
+        return at;
+    }
+    let mut next = at;
+    let mut i: u8 = 0;
+    while i < place {
+        next = put_byte(out, next, b' ');
+        i += 1;
+    }
+    put_text(out, next, b"^\n")
 }

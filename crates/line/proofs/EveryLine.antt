@@ -2,16 +2,16 @@
 -- wrong; or they do not compose it. Each case has its numbers. Assumes nothing.
 use mathlib.Core.Path.{_≡_, refl, sym, ap, _∙_}
 use mathlib.Core.Logic.{⊎-elim}
-use mathlib.Core.Bool.{Bool, true, false, cond}
+use mathlib.Core.Bool.{Bool, true, false, cond, not}
 use mathlib.Core.List.{List, [], _∷_}
-use Prim.Native.Nat.{ℕ, suc}
+use Prim.Native.Nat.{ℕ, _+_}
 use native.Mathlib.Omega.{arith}
 use lib.Dec.{eqb, ltb}
 use lib.ListN.{length, take, drop}
 use borrow.Author.Tests.{le-ltb}
 use Rattle.laws.specs.Lists.{span}
 use Rattle.laws.specs.Text.{plus-sign, minus-sign, slash}
-use Rattle.laws.specs.Refusals.{TOOLONG, NOTLINE, BADSUM, BADADDRESS}
+use Rattle.laws.specs.Refusals.{TOOLONG, NOTLINE, BADSUM, BADADDRESS, NOWHERE, inByte}
 use Rattle.laws.proofs.Order.{lt-or-le, eq-or-ne}
 use Rattle.laws.proofs.Bools.{clash}
 use Rattle.numbers.specs.Spelling.{Digit, AddressWord}
@@ -20,20 +20,23 @@ use Rattle.numbers.specs.declared.UnsignedRead.{UnsignedRead}
 use Rattle.numbers.specs.declared.UnsignedRead.the-variants as Unsigned
 use Rattle.numbers.proofs.Value.{digit-value, digit-below, digit-of}
 use Rattle.numbers.proofs.Numbers.{address-read, address-of}
-use Rattle.words.specs.Cutting.{cut, headWord, tailWords, pastMany}
+use Rattle.words.specs.Cutting.{Placed, bytesOf, wordsAt, headWord}
 use Rattle.command.specs.declared.Command.{Command}
+use Rattle.phrase.specs.Reading.{readCommand}
 use Rattle.phrase.specs.declared.WordsRead.{WordsRead}
 use Rattle.phrase.specs.declared.WordsRead.the-variants as Read
-use Rattle.phrase.proofs.WordsNumbered.{Misspelt, NumberedWords, words-numbered}
+use Rattle.phrase.proofs.WordsNumbered.{Misspelt, misspelt-at, NumberedWords, words-numbered}
 use Rattle.line.specs.declared.Frame.{Frame}
 use Rattle.line.specs.declared.Frame.the-variants as Frame
 use Rattle.line.specs.declared.LineRead.{LineRead}
 use Rattle.line.specs.declared.LineRead.the-variants.{Silent, Addressed}
 use Rattle.line.specs.Spelling.{Asked, Words, Line, longestLine}
-use Rattle.line.specs.Reading.{printable, noColon, isFooter, checked, parted, afterSlash, slashed, frameOf, startsNumber, axisDigit, axisOf, addressOf, readWords, framed, readLine, carriedBy, askedBy, readAsked}
-use Rattle.line.proofs.Steps.{begins-plus, begins-minus, begins-digit, starts-none, behind-slash}
+use Rattle.line.specs.Reading.{printable, noColon, isFooter, checked, parted, afterSlash, slashed, frameOf, startsNumber, readWords, framed, readLine, carriedBy, askedBy, readAsked}
+use Rattle.line.specs.Refusals.{isAddress, badAddress}
+use Rattle.line.proofs.ByWords.{Own, by-words}
+use Rattle.line.proofs.Steps.{begins-plus, begins-minus, begins-digit, starts-none}
 use Rattle.line.proofs.Composed.{Composed, composed-read, composed-of}
-use Rattle.line.proofs.Carried.{upTo}
+use Rattle.line.proofs.Carried.{upTo, content-words}
 use Rattle.line.proofs.Demand3.{digit-begins, no-asked, together, demand-3}
 
 -- "A first word that begins with a digit, `+` or `-` is always the address word."
@@ -54,10 +57,10 @@ pub data Unframed : ℕ → Type 0 where
 
 -- the line l, and what is read of it
 pub data Reads (l : List ℕ) : LineRead → Type 0 where
-  unframed : {n : ℕ} → Unframed n → ((ws : List (List ℕ)) → Composed l ws → ⊥) → Reads l (Silent n)
-  misaddressed : {ws : List (List ℕ)} → Composed l ws → BadAddress ws → Reads l (Silent BADADDRESS)
-  misspelt : {ws : List (List ℕ)} {m n k end : ℕ} → Composed l ws → (BadAddress ws → ⊥) → ((a : Asked) → Words ws a → ⊥) → Misspelt m
-      → Reads l (Addressed n k end (Read.Refused m))
+  unframed : {n : ℕ} → Unframed n → ((ws : List (List ℕ)) → Composed l ws → ⊥) → Reads l (Silent n NOWHERE)
+  misaddressed : {ws : List (List ℕ)} {p : ℕ} → Composed l ws → BadAddress ws → Reads l (Silent BADADDRESS p)
+  misspelt : {ws : List (List ℕ)} {m p n k end : ℕ} → Composed l ws → (BadAddress ws → ⊥) → ((a : Asked) → Words ws a → ⊥) → Misspelt m
+      → Reads l (Addressed n k end (Read.Refused m p))
   spelled : {n k end from : ℕ} {c : Command}
       → Line l (record { address = n; axis = k; command = c; echo = carriedBy c (drop from (take end l)) })
       → Reads l (Addressed n k end (Read.Command c from))
@@ -91,36 +94,37 @@ pub an-address : {w : List ℕ} {n : ℕ} {ws : List (List ℕ)} → AddressWord
 an-address {n = n} a (bad-address b h) = h n a
 
 data WordsTold (ws : List (List ℕ)) : LineRead → Type 0 where
-  wrong : BadAddress ws → WordsTold ws (Silent BADADDRESS)
+  wrong : {p : ℕ} → BadAddress ws → WordsTold ws (Silent BADADDRESS p)
   right : {n k end : ℕ} {w : WordsRead} → (BadAddress ws → ⊥) → NumberedWords w → WordsTold ws (Addressed n k end w)
 
 either : {X : Type 0} (P : X → Type 0) (t : Bool) {x y : X} → P x → P y → P (cond t x y)
 either P true p q = p
 either P false p q = q
 
-axis-told : (end : ℕ) (past : ℕ → ℕ) (n : ℕ) {ws : List (List ℕ)} (t : List (List ℕ)) → (BadAddress ws → ⊥)
-    → WordsTold ws (axisOf n end past t)
-unfolding axisOf
-axis-told end past n {ws} t h =
-    either (WordsTold ws) (ltb (axisDigit (headWord t)) 10) (right h (words-numbered (past 3) (tailWords t)))
-    (right h (words-numbered (past 2) t))
-
-words-told : (end : ℕ) (past : ℕ → ℕ) (ws : List (List ℕ)) (b : Bool) → startsNumber (headWord ws) ≡ b
-    → WordsTold ws (readWords end past ws)
-unfolding readWords headWord tailWords
-words-told end past ws false e = rw e (right (no-number e) (words-numbered (past 2) ws))
-words-told end past [] true e = clash e starts-none
-words-told end past (w ∷ t) true e = rw e (go (readAddress w) refl)
+-- no address word is wrong, as the table of refusals says it and as the spelling rules do
+none-bad : (ws : List Placed) → badAddress ws ≡ false → BadAddress (bytesOf ws) → ⊥
+unfolding badAddress
+none-bad (w ∷ ws) e (bad-address b h) = go (readAddress (w .bytes)) refl (rw (starts b) at e)
   where
-    none : (p n : ℕ) → Unsigned.Refused p ≡ Unsigned.Value n → ⊥
-    none p n e = let z : _≡_ {A = ℕ} 0 1 = cc in omega arith
+    go : (u : UnsignedRead) → readAddress (w .bytes) ≡ u → not (isAddress u) ≡ false → ⊥
+    go (Unsigned.Value n) q z = h n (address-of (w .bytes) n q)
+    go (Unsigned.Refused p) q z = clash refl z
 
-    go : (u : UnsignedRead) → readAddress w ≡ u → WordsTold (w ∷ t) (addressOf u end (λ i. past (suc i)) t)
-    go (Unsigned.Refused p) q = wrong (bad-address (begins w e) (λ n a. none p n (sym q ∙ address-read a)))
-    go (Unsigned.Value n) q = axis-told end (λ i. past (suc i)) n t (an-address (address-of w n q))
+own-told : (ws ts : List Placed) (n k end : ℕ) → Own ws ts → WordsTold (bytesOf ws) (Addressed n k end (readCommand ts))
+own-told ws ts n k end o = right (none-bad ws (o .right)) (words-numbered ts)
+
+wrong-told : (w : Placed) (t : List Placed) (p : ℕ) → startsNumber (w .bytes) ≡ true → readAddress (w .bytes) ≡ Unsigned.Refused p
+    → WordsTold (bytesOf (w ∷ t)) (Silent BADADDRESS (inByte (w .start + p)))
+wrong-told w t p e q = wrong (bad-address (begins (w .bytes) e) (λ n a. no-address n (sym q ∙ address-read a)))
+  where
+    no-address : (n : ℕ) → Unsigned.Refused p ≡ Unsigned.Value n → ⊥
+    no-address n e = let z : _≡_ {A = ℕ} 0 1 = cc in omega arith
+
+words-told : (end : ℕ) (ws : List Placed) → WordsTold (bytesOf ws) (readWords end ws)
+words-told = by-words (λ ws r. WordsTold (bytesOf ws) r) wrong-told own-told
 
 -- ---- the frame
-abbrev NumberedFrame : Frame → Type 0
+abbrev pub NumberedFrame : Frame → Type 0
 NumberedFrame (Frame.Content n) = Unit
 NumberedFrame (Frame.Refused n) = Unframed n
 
@@ -142,7 +146,7 @@ slashed-numbered (c ∷ t) =
     (either NumberedFrame (isFooter (drop (span printable t) t)) (checked-numbered n (take n s) (drop n s)) not-line)
     not-line
 
-frame-numbered : (l : List ℕ) → NumberedFrame (frameOf l)
+pub frame-numbered : (l : List ℕ) → NumberedFrame (frameOf l)
 unfolding frameOf
 frame-numbered l = either NumberedFrame (ltb longestLine (length l)) too-long (slashed-numbered l)
 
@@ -153,9 +157,9 @@ module _ (l : List ℕ) where
 
   content-told : {ws : List (List ℕ)} (r : LineRead) → readLine l ≡ r → Composed l ws → WordsTold ws r → Reads l r
   unfolding readAsked
-  content-told (Silent n) q c (wrong h) = misaddressed c h
-  content-told (Addressed n k end (Read.Refused m)) q c (right h x) =
-      misspelt c h (λ a w. no-asked (sym (ap (askedBy l) q) ∙ demand-3 l a .0 (together c w))) x
+  content-told (Silent n p) q c (wrong h) = misaddressed c h
+  content-told (Addressed n k end (Read.Refused m p)) q c (right h x) =
+      misspelt c h (λ a w. no-asked (sym (ap (askedBy l) q) ∙ demand-3 l a .0 (together c w))) (misspelt-at x)
   content-told (Addressed n k end (Read.Command d from)) q c (right h x) = spelled (demand-3 l _ .1 (ap (askedBy l) q))
 
   -- Every line is read as the spelling rules say.
@@ -167,5 +171,4 @@ module _ (l : List ℕ) where
       go (Frame.Refused n) q h = unframed h (no-frame q)
       go (Frame.Content n) q h =
           let s = upTo l n in
-          content-told _ (ap (framed l) q) (composed-of l n q)
-          (rw (behind-slash n l) (words-told (length s) (pastMany s 1) (cut (take n (drop 1 l))) _ refl))
+          content-told _ (ap (framed l) q) (composed-of l n q) (rw (← content-words l n) (words-told (length s) (wordsAt s 1)))

@@ -2,6 +2,7 @@ pub mod Frames
 pub mod Steps
 pub mod Opened
 pub mod Carried
+pub mod ByWords
 pub mod Composed
 pub mod Demand3
 pub mod EveryLine
@@ -14,3 +15,5 @@ pub mod Exactly
 pub mod Every
 pub mod Fits
 pub mod ShortEcho
+pub mod WentWrong
+pub mod PlaceCases

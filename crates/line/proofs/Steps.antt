@@ -13,12 +13,11 @@ use lib.Seq.{drop-cons, take-all}
 use borrow.Author.Tests.{eq-eqb, ne-eqb, lt-ltb, le-ltb}
 use Rattle.laws.specs.Lists.{span}
 use Rattle.laws.proofs.Order.{lt-or-le, eq-or-ne}
-use Rattle.laws.proofs.Span.{span-yes, span-not, span-none}
+use Rattle.laws.proofs.Span.{span-yes, span-not, span-none, span-le}
 use Rattle.numbers.specs.Reading.{valueOf}
-use Rattle.words.specs.Cutting.{noSpace, cut, headWord, startOf, endOf, wordAt, pastOf, pastMany}
-use Rattle.words.specs.declared.Word.{Word}
-use Rattle.words.proofs.Space.{other-yes, other-not, at-word}
-use Rattle.words.proofs.Cut.{head-at, left-none, word-head, word-within, word-tail, word-past, past-first}
+use Rattle.words.specs.Cutting.{noSpace, bytesOf, wordsAt, headWord, startOf, endOf}
+use Rattle.words.proofs.Space.{other-yes, other-not}
+use Rattle.words.proofs.Cut.{head-at, words-none, words-some}
 use Rattle.phrase.specs.Reading.{readCommand}
 use Rattle.phrase.specs.declared.WordsRead.{WordsRead}
 use Rattle.line.specs.Reading.{beginsNumber, startsNumber, axisDigit, axisOf}
@@ -44,29 +43,29 @@ starts-none = refl
 
 -- ---- the first word from `at` on, which may start at a
 module _ (s : List ℕ) (at : ℕ) {a : ℕ} (q : a ≡ startOf s at) where
-  pub number-none : length s ≤ a → false ≡ startsNumber (headWord (cut (drop at s)))
+  pub number-none : length s ≤ a → false ≡ startsNumber (headWord (bytesOf (wordsAt s at)))
   unfolding headWord
-  number-none l = rw (left-none s at q l) (sym starts-none)
+  number-none l = rw (words-none s at q l) (sym starts-none)
 
-  axis-none : length s ≤ a → 99 ≡ axisDigit (headWord (cut (drop at s)))
+  axis-none : length s ≤ a → 99 ≡ axisDigit (headWord (bytesOf (wordsAt s at)))
   unfolding headWord axisDigit
-  axis-none l = rw (left-none s at q l)
+  axis-none l = rw (words-none s at q l)
 
   module _ (l : a < length s) where
-    pub number-first : beginsNumber (getD s a 0) ≡ startsNumber (headWord (cut (drop at s)))
+    pub number-first : beginsNumber (getD s a 0) ≡ startsNumber (headWord (bytesOf (wordsAt s at)))
     unfolding startsNumber
     number-first = rw (head-at s at q l)
 
     -- the bytes behind its first: none, a space, or more of it
     axis-by : (t : List ℕ) → drop (suc a) s ≡ t → (n : ℕ) → span noSpace t ≡ n
-        → axisDigit (headWord (cut (drop at s))) ≡ axisDigit (getD s a 0 ∷ take n t)
+        → axisDigit (headWord (bytesOf (wordsAt s at))) ≡ axisDigit (getD s a 0 ∷ take n t)
     axis-by t e n m = rw (head-at s at q l, e, m)
 
-    axis-last : length s - a ≡ 1 → valueOf (getD s a 0) ≡ axisDigit (headWord (cut (drop at s)))
+    axis-last : length s - a ≡ 1 → valueOf (getD s a 0) ≡ axisDigit (headWord (bytesOf (wordsAt s at)))
     unfolding axisDigit
     axis-last h = go (drop (suc a) s) refl
       where
-        go : (t : List ℕ) → drop (suc a) s ≡ t → valueOf (getD s a 0) ≡ axisDigit (headWord (cut (drop at s)))
+        go : (t : List ℕ) → drop (suc a) s ≡ t → valueOf (getD s a 0) ≡ axisDigit (headWord (bytesOf (wordsAt s at)))
         go [] e = sym (axis-by [] e 0 (span-none noSpace))
         go (d ∷ t) e = absurd (omega (arith, length-drop (suc a) s, ap length e))
 
@@ -77,11 +76,11 @@ module _ (s : List ℕ) (at : ℕ) {a : ℕ} (q : a ≡ startOf s at) where
           more : (n : ℕ) → a < n → (n - a ≡ 1 → ⊥) → suc a < n
           more n i j = omega arith
 
-      axis-alone : getD s (a + 1) 0 ≡ 32 → valueOf (getD s a 0) ≡ axisDigit (headWord (cut (drop at s)))
+      axis-alone : getD s (a + 1) 0 ≡ 32 → valueOf (getD s a 0) ≡ axisDigit (headWord (bytesOf (wordsAt s at)))
       unfolding axisDigit
       axis-alone e = sym (axis-by _ behind 0 (span-not noSpace _ _ (other-not _ (rw add-one at e))))
 
-      axis-longer : (getD s (a + 1) 0 ≡ 32 → ⊥) → 99 ≡ axisDigit (headWord (cut (drop at s)))
+      axis-longer : (getD s (a + 1) 0 ≡ 32 → ⊥) → 99 ≡ axisDigit (headWord (bytesOf (wordsAt s at)))
       unfolding axisDigit
       axis-longer e = sym (axis-by _ behind _ (span-yes noSpace _ _ (other-yes _ (rw add-one at e))))
 
@@ -117,7 +116,7 @@ one-byte (c ∷ []) h = refl
 one-byte (c ∷ d ∷ w) h = absurd (omega arith)
 
 module _ (s : List ℕ) (at : ℕ) {a : ℕ} (q : a ≡ startOf s at) where
-  digit-axis : digitAt s a ≡ axisDigit (headWord (cut (drop at s)))
+  digit-axis : digitAt s a ≡ axisDigit (headWord (bytesOf (wordsAt s at)))
   digit-axis =
       ⊎-elim (λ l. ⊎-elim (λ h. sym (digit-last s a l h) ∙ axis-last s at q l h)
       (λ h. ⊎-elim (λ e. sym (digit-alone s a l h e) ∙ axis-alone s at q l h e)
@@ -126,33 +125,36 @@ module _ (s : List ℕ) (at : ℕ) {a : ℕ} (q : a ≡ startOf s at) where
       (λ l. sym (digit-none s a l) ∙ axis-none s at q l)
       (lt-or-le a (length s))
 
-  -- behind an axis word
-  behind-axis : digitAt s a < 10 → a + 1 ≡ pastOf s at
-  unfolding pastOf
-  behind-axis h =
-      ⊎-elim (λ (l : a < length s).
-      let w = at-word s at a q l in
-      let one = one-byte (headWord (cut (drop at s))) (rw digit-axis at h) in
-      let size : length (take (endOf s a - a) (drop a s)) ≡ 1 = ap length (rw w at (word-head s at {w = wordAt s at} refl)) ∙ one in
-      let within : endOf s a ≤ length s = rw w at (word-within s at {w = wordAt s at} refl) in
-      let place : endOf s a ≡ pastOf s at = sym (ap (λ (x : Word). x .end) w) in
-      omega (arith, length-take (endOf s a - a) (drop a s), length-drop a s))
-      (λ (l : length s ≤ a). absurd (omega (arith, digit-none s a l)))
-      (lt-or-le a (length s))
+  module _ (l : a < length s) where
+    abbrev first : List ℕ
+    first = take (endOf s a - a) (drop a s)
+
+    axis-first : digitAt s a ≡ axisDigit first
+    unfolding headWord
+    axis-first = digit-axis ∙ rw (words-some s at q l)
+
+    -- behind an axis word
+    behind-axis : digitAt s a < 10 → a + 1 ≡ endOf s a
+    behind-axis h =
+        let one = one-byte first (rw axis-first at h) in
+        let in-text = span-le noSpace (drop a s) in
+        omega (arith, length-take (endOf s a - a) (drop a s), length-drop a s)
 
   module _ (n : ℕ) {d : ℕ} (is : d ≡ digitAt s a) where
-    pub with-axis : {r : WordsRead} → d < 10 → r ≡ readCommand (pastMany s (a + 1) 2) (cut (drop (a + 1) s))
-        → Addressed n d (length s) r ≡ axisOf n (length s) (pastMany s at) (cut (drop at s))
+    pub with-axis : {r : WordsRead} → d < 10 → r ≡ readCommand (wordsAt s (a + 1))
+        → Addressed n d (length s) r ≡ axisOf n (length s) (wordsAt s at)
     unfolding axisOf
-    with-axis l e =
-        let p = behind-axis (rw is at l) in
-        rw (← digit-axis, ← is, lt-ltb d 10 l, ← word-tail s at {w = wordAt s at} refl, ← past-first s at 2)
-        (ap (Addressed n d (length s)) (e ∙ rw (p, ← word-past s at {w = wordAt s at} refl)))
+    with-axis h e =
+        let l = axis-there s a is h in
+        rw (words-some s at q l, ← axis-first l, ← is, lt-ltb d 10 h, ← behind-axis l (rw is at h)) (ap (Addressed n d (length s)) e)
 
-    pub without-axis : {r : WordsRead} → 10 ≤ d → r ≡ readCommand (pastMany s at 2) (cut (drop at s))
-        → Addressed n 0 (length s) r ≡ axisOf n (length s) (pastMany s at) (cut (drop at s))
+    pub without-axis : {r : WordsRead} → 10 ≤ d → r ≡ readCommand (wordsAt s at)
+        → Addressed n 0 (length s) r ≡ axisOf n (length s) (wordsAt s at)
     unfolding axisOf
-    without-axis l e = rw (← digit-axis, ← is, le-ltb d 10 l) (ap (Addressed n 0 (length s)) e)
+    without-axis h e = ap (Addressed n 0 (length s)) e ∙ ⊎-elim
+        (λ (l : a < length s). rw (words-some s at q l, ← axis-first l, ← is, le-ltb d 10 h))
+        (λ (l : length s ≤ a). rw (words-none s at q l))
+        (lt-or-le a (length s))
 
 -- ---- the content stands behind the `/`
 pub behind-slash : (n : ℕ) (l : List ℕ) → drop 1 (take (suc n) l) ≡ take n (drop 1 l)

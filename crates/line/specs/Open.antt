@@ -1,15 +1,21 @@
--- Every definition that reading a line goes through, by one name: a proof that computes a line says `unfolding reading`.
+-- Every definition that reading or refusing a line goes through, by one name: a proof that computes a line says `unfolding reading`,
+-- or `unfolding refusing`.
 -- Nothing is defined here.
 use Prim.Native.Nat.{ℕ}
 use Rattle.laws.specs.Text as Text
 use Rattle.laws.specs.Lists as Lists
+use Rattle.laws.specs.Refusals as Refusals
 use Rattle.numbers.specs.Checksum as Checksum
 use Rattle.numbers.specs.Reading as Number
 use Rattle.words.specs.Cutting as Words
 use Rattle.words.specs.Find as Find
 use Rattle.command.specs.Settings as Settings
 use Rattle.phrase.specs.Reading as Phrase
+use Rattle.phrase.specs.Refusals as PhraseRefusals
+use Rattle.phrase.specs.Place as PhrasePlace
 use Rattle.line.specs.Reading as Line
+use Rattle.line.specs.Refusals as LineRefusals
+use Rattle.line.specs.Place as LinePlace
 
 unfoldable openBytes : ℕ
 unfolding Text.text Text.same Lists.span Checksum.total Checksum.checksum
@@ -21,8 +27,7 @@ unfolding Number.valueOf Number.scan Number.digitsFrom Number.startsHex Number.u
 openNumbers = 0
 
 unfoldable openWords : ℕ
-unfolding Words.isSpace Words.noSpace Words.grow Words.cut Words.headWord Words.tailWords Words.wordAt Words.pastOf
-    Words.pastMany Find.meaningOf
+unfolding Words.isSpace Words.noSpace Words.growAt Words.wordsFrom Words.cut Find.meaningOf
 openWords = 0
 
 unfoldable openCommand : ℕ
@@ -42,3 +47,19 @@ openLine = 0
 unfoldable pub reading : ℕ
 unfolding openBytes openNumbers openWords openCommand openPhrase openLine
 reading = 0
+
+-- the same for a line's refusal and its place, as the tables say them
+unfoldable openTables : ℕ
+unfolding Lists.fold Refusals.firstOf PhraseRefusals.beginSo PhraseRefusals.justSo PhraseRefusals.badCommand PhraseRefusals.badData
+    PhrasePlace.otherWordsFit PhrasePlace.firstRefused PhrasePlace.placeAmong PhrasePlace.wordsPlace
+openTables = 0
+
+unfoldable openRefusals : ℕ
+unfolding LineRefusals.footerSize LineRefusals.body LineRefusals.tooLong LineRefusals.notLine LineRefusals.checksumRight LineRefusals.badSum
+    LineRefusals.content LineRefusals.badAddress LineRefusals.behindAxis LineRefusals.own LineRefusals.wordsIn LineRefusals.refusalOf
+    LinePlace.addressPlace LinePlace.placeWith LinePlace.placeOf
+openRefusals = 0
+
+unfoldable pub refusing : ℕ
+unfolding openBytes openNumbers openWords openCommand openPhrase openLine openTables openRefusals
+refusing = 0

@@ -1,21 +1,23 @@
--- How a line is read, with the refusals 2, 1, 3, 4, 10 and 11 in document 01's order, "with address and axis beside 10 and 11".
--- The refusals are said apart from this in specs/Refusals.antt, and the two agree.
+-- How a line is read, with the refusals 2, 1, 3, 4, 10 and 11 in document 01's order, "with address and axis beside 10 and 11",
+-- and with the place of each in the line. The refusals and their places are said apart from this in specs/Refusals.antt and
+-- specs/Place.antt, and these agree with it.
 use mathlib.Core.Bool.{Bool, false, cond, not, _&&_, _||_}
 use mathlib.Core.List.{List, [], _∷_}
 use mathlib.Core.Option.{Option, none, some}
-use Prim.Native.Nat.{ℕ, suc}
+use Prim.Native.Nat.{ℕ, suc, _+_}
 use lib.Dec.{eqb, ltb, leb}
 use lib.ListN.{take, drop, length}
 use Rattle.laws.specs.Lists.{span}
 use Rattle.laws.specs.Text.{CR, LF, plus-sign, minus-sign, slash, colon}
-use Rattle.laws.specs.Refusals.{TOOLONG, NOTLINE, BADSUM, BADADDRESS}
+use Rattle.laws.specs.Refusals.{TOOLONG, NOTLINE, BADSUM, BADADDRESS, NOWHERE, inByte}
 use Rattle.numbers.specs.Reading.{noDigit, valueOf, readAddress, readPair, saysSum}
 use Rattle.numbers.specs.declared.UnsignedRead.{UnsignedRead}
 use Rattle.numbers.specs.declared.UnsignedRead.the-variants as Unsigned
-use Rattle.words.specs.Cutting.{cut, headWord, tailWords, pastMany}
+use Rattle.words.specs.Cutting.{Placed, wordsAt, cut}
 use Rattle.command.specs.declared.Command.{Command}
 use Rattle.command.specs.Commands.{carriesWords}
 use Rattle.phrase.specs.Reading.{readCommand}
+use Rattle.phrase.specs.Place.{placeTold}
 use Rattle.phrase.specs.declared.WordsRead.the-variants as Words
 use Rattle.line.specs.declared.Frame.{Frame}
 use Rattle.line.specs.declared.Frame.the-variants as Frame
@@ -79,31 +81,33 @@ axisDigit [] = noDigit
 axisDigit (c ∷ []) = valueOf c
 axisDigit (c ∷ d ∷ w) = noDigit
 
--- the words ws behind the address n, where the content ends at `end`, and `past i` is the place behind i of these words
-unfoldable pub axisOf : ℕ → ℕ → (ℕ → ℕ) → List (List ℕ) → LineRead
-axisOf n end past ws =
-    cond (ltb (axisDigit (headWord ws)) 10)
-    (Addressed n (axisDigit (headWord ws)) end (readCommand (past 3) (tailWords ws)))
-    (Addressed n 0 end (readCommand (past 2) ws))
+-- the words behind the address n, where the content ends at `end`
+unfoldable pub axisOf : ℕ → ℕ → List Placed → LineRead
+axisOf n end [] = Addressed n 0 end (readCommand [])
+axisOf n end (w ∷ ws) =
+    cond (ltb (axisDigit (w .bytes)) 10)
+    (Addressed n (axisDigit (w .bytes)) end (readCommand ws))
+    (Addressed n 0 end (readCommand (w ∷ ws)))
 
-abbrev pub addressOf : UnsignedRead → ℕ → (ℕ → ℕ) → List (List ℕ) → LineRead
-addressOf (Unsigned.Refused p) end past ws = Silent BADADDRESS
-addressOf (Unsigned.Value n) end past ws = axisOf n end past ws
+-- the address word, which starts at place i; or the place where it refuses
+abbrev pub addressOf : ℕ → UnsignedRead → ℕ → List Placed → LineRead
+addressOf i (Unsigned.Refused p) end ws = Silent BADADDRESS (inByte (i + p))
+addressOf i (Unsigned.Value n) end ws = axisOf n end ws
 
 -- the words of a content
-unfoldable pub readWords : ℕ → (ℕ → ℕ) → List (List ℕ) → LineRead
-readWords end past ws =
-    cond (startsNumber (headWord ws)) (addressOf (readAddress (headWord ws)) end (λ i. past (suc i)) (tailWords ws))
-    (Addressed 0 0 end (readCommand (past 2) ws))
+unfoldable pub readWords : ℕ → List Placed → LineRead
+readWords end [] = Addressed 0 0 end (readCommand [])
+readWords end (w ∷ ws) =
+    cond (startsNumber (w .bytes)) (addressOf (w .start) (readAddress (w .bytes)) end ws) (Addressed 0 0 end (readCommand (w ∷ ws)))
 
 -- ---- the line
 
--- a line up to the end of its content, which stands behind the `/`
+-- a line up to the end of its content, which stands behind the `/`: places are "counted from 0 at the `/`"
 abbrev pub readContent : List ℕ → LineRead
-readContent s = readWords (length s) (pastMany s 1) (cut (drop 1 s))
+readContent s = readWords (length s) (wordsAt s 1)
 
 abbrev pub framed : List ℕ → Frame → LineRead
-framed l (Frame.Refused n) = Silent n
+framed l (Frame.Refused n) = Silent n NOWHERE
 framed l (Frame.Content n) = readContent (take (suc n) l)
 
 unfoldable pub readLine : List ℕ → LineRead
@@ -113,9 +117,14 @@ readLine l = framed l (frameOf l)
 
 -- the number: "1 to 5 ... are silent", 10 and 11 are not, and "Accepted is 0"
 abbrev pub numberOf : LineRead → ℕ
-numberOf (Silent n) = n
-numberOf (Addressed n k end (Words.Refused m)) = m
+numberOf (Silent n p) = n
+numberOf (Addressed n k end (Words.Refused m p)) = m
 numberOf (Addressed n k end (Words.Command c from)) = 0
+
+-- the place that is told with it
+abbrev pub placeRead : LineRead → ℕ
+placeRead (Silent n p) = p
+placeRead (Addressed n k end w) = placeTold w
 
 -- the words that a command carries: those of the line l from a place up to the end of the content
 abbrev pub carriedBy : Command → List ℕ → List (List ℕ)
@@ -123,8 +132,8 @@ carriedBy c s = cond (carriesWords c) (cut s) []
 
 -- the command: its address, its axis, and what its row carries, where l is the line
 abbrev pub askedBy : List ℕ → LineRead → Option Asked
-askedBy l (Silent n) = none
-askedBy l (Addressed n k end (Words.Refused m)) = none
+askedBy l (Silent n p) = none
+askedBy l (Addressed n k end (Words.Refused m p)) = none
 askedBy l (Addressed n k end (Words.Command c from)) =
     some (record { address = n; axis = k; command = c; echo = carriedBy c (drop from (take end l)) })
 

@@ -11,7 +11,7 @@ use Rattle.laws.specs.Refusals.{_when_, firstOf, TOOLONG, NOTLINE, BADSUM, BADA
 use Rattle.numbers.specs.Reading.{readAddress, readPair, saysSum}
 use Rattle.numbers.specs.declared.UnsignedRead.{UnsignedRead}
 use Rattle.numbers.specs.declared.UnsignedRead.the-variants as Unsigned
-use Rattle.words.specs.Cutting.{cut, headWord, tailWords}
+use Rattle.words.specs.Cutting.{Placed, bytesOf, wordsFrom}
 use Rattle.phrase.specs.Refusals.{badCommand, badData}
 use Rattle.line.specs.Spelling.{longestLine}
 use Rattle.line.specs.Reading.{printable, noColon, isEnd, startsNumber, axisDigit}
@@ -52,22 +52,32 @@ abbrev pub isAddress : UnsignedRead → Bool
 isAddress (Unsigned.Value n) = true
 isAddress (Unsigned.Refused p) = false
 
-unfoldable pub badAddress : List (List ℕ) → Bool
-badAddress ws = startsNumber (headWord ws) && not (isAddress (readAddress (headWord ws)))
+unfoldable pub badAddress : List Placed → Bool
+badAddress [] = false
+badAddress (w ∷ ws) = startsNumber (w .bytes) && not (isAddress (readAddress (w .bytes)))
 
 -- the command's own words: those behind the address word and the axis word, where these stand
-unfoldable pub own : List (List ℕ) → List (List ℕ)
-own ws = cond (startsNumber (headWord ws)) (cond (ltb (axisDigit (headWord (tailWords ws))) 10) (drop 2 ws) (drop 1 ws)) ws
+unfoldable pub behindAxis : List Placed → List Placed
+behindAxis [] = []
+behindAxis (w ∷ ws) = cond (ltb (axisDigit (w .bytes)) 10) ws (w ∷ ws)
 
--- the number of a line's refusal, where ws are the words of its content: 2, 1, 3, 4, 10, 11, in this order; 0 where none applies
+unfoldable pub own : List Placed → List Placed
+own [] = []
+own (w ∷ ws) = cond (startsNumber (w .bytes)) (behindAxis ws) (w ∷ ws)
+
+-- the words of a line's content, each with its place in the line: the `/` has place 0
+unfoldable pub wordsIn : List ℕ → List Placed
+wordsIn l = wordsFrom 1 (content (body l))
+
+-- the number of a line's refusal: 2, 1, 3, 4, 10, 11, in this order; 0 where none applies
 unfoldable pub refusalOf : List ℕ → ℕ
 refusalOf l =
-    let ws = cut (content (body l)) in
+    let ws = wordsIn l in
     firstOf
     (TOOLONG when tooLong l
     ∷ NOTLINE when notLine l
     ∷ BADSUM when badSum (body l)
     ∷ BADADDRESS when badAddress ws
-    ∷ BADCOMMAND when badCommand (own ws)
-    ∷ BADDATA when badData (own ws)
+    ∷ BADCOMMAND when badCommand (bytesOf (own ws))
+    ∷ BADDATA when badData (bytesOf (own ws))
     ∷ [])

@@ -1,17 +1,19 @@
-// Reads a line: silence with 2, 1, 3 or 4; or an address, an axis and what the command's words come to.
+// Reads a line: silence with 2, 1, 3 or 4, and the place of 4; or an address, an axis and what the command's words come to.
 // It is read in two steps, so that a line for another address is not read behind it. The rules are in specs/Reading.antt and
 // specs/Opening.antt; proofs/Demand3.antt shows that just what is spelled is read.
 ghost use mathlib.Core.Path.{_≡_};
-ghost use lib.ListN.{length, take, drop};
-ghost use Rattle.words.specs.Cutting.{cut, headWord, pastMany};
-ghost use Rattle.line.specs.Reading.{beginsNumber, startsNumber, axisOf, numberOf, askedBy, readAsked};
+ghost use lib.ListN.{length, take};
+ghost use Rattle.words.specs.Cutting.{bytesOf, wordsAt, headWord};
+ghost use Rattle.line.specs.Reading.{beginsNumber, startsNumber, axisOf, numberOf, placeRead, askedBy, readAsked};
 ghost use Rattle.line.specs.Refusals.{refusalOf};
-ghost use Rattle.line.specs.Opening.{digitAt, addressee, openWords, openLine, readOn};
+ghost use Rattle.line.specs.Place.{placeOf};
+ghost use Rattle.line.specs.Opening.{digitAt, AddressPlaces, addressee, openWords, openLine, readOn};
 use crate::Frame;
 use crate::LineRead;
 use crate::Opening;
 use crate::framing::read_frame;
 use laws::BADADDRESS;
+use laws::NOWHERE;
 use numbers::UnsignedRead;
 use numbers::digits::NO_DIGIT;
 use numbers::digits::digit_value;
@@ -32,7 +34,7 @@ fn begins_number(c: u8) -> bool
 
 // Does the first word from at on begin as a number? Its first byte tells.
 fn number_at(s: &[u8], at: usize) -> bool
-    ensures { λ r. ⌜ r ≡ startsNumber (headWord (cut (drop at (now (s .entry))))) ⌝ }
+    ensures { λ r. ⌜ r ≡ startsNumber (headWord (bytesOf (wordsAt (now (s .entry)) at))) ⌝ }
 {
     let i = words::start_of(s, at);
     if i < s.len() {
@@ -59,7 +61,7 @@ fn digit_at(s: &[u8], i: usize) -> u64
 
 // The words behind the address n, from a place on.
 fn read_axis(s: &[u8], at: usize, n: u64) -> LineRead
-    ensures { λ r. ⌜ r ≡ axisOf n (length (now (s .entry))) (pastMany (now (s .entry)) at) (cut (drop at (now (s .entry)))) ⌝ }
+    ensures { λ r. ⌜ r ≡ axisOf n (length (now (s .entry))) (wordsAt (now (s .entry)) at) ⌝ }
 {
     let i = words::start_of(s, at);
     let d = digit_at(s, i);
@@ -69,12 +71,13 @@ fn read_axis(s: &[u8], at: usize, n: u64) -> LineRead
     LineRead::Addressed(n, 0, s.len(), phrase::reading::read_command(s, at))
 }
 
-// A first word that comes to a as an address; the content goes on from a place up to its end.
-fn addressee_of(a: UnsignedRead, at: usize, end: usize) -> Opening
-    ensures { λ r. ⌜ r ≡ addressee a at end ⌝ }
+// A first word that starts at a place and comes to a as an address; the content goes on from a place up to its end.
+fn addressee_of(start: usize, a: UnsignedRead, at: usize, end: usize) -> Opening
+    requires { ⌜ AddressPlaces start a ⌝ }
+    ensures { λ r. ⌜ r ≡ addressee start a at end ⌝ }
 {
     match a {
-        UnsignedRead::Refused(_) => Opening::Silent(BADADDRESS),
+        UnsignedRead::Refused(p) => Opening::Silent(BADADDRESS, ((start + p) % 256) as u8),
         UnsignedRead::Value(n) => Opening::To(n, at, end),
     }
 }
@@ -88,7 +91,7 @@ fn open_words(s: &[u8]) -> Opening
         let start = w.start;
         let end = w.end;
         let a = numbers::reading::read_address(&s[start..end]);
-        return addressee_of(a, end, s.len());
+        return addressee_of(start, a, end, s.len());
     }
     Opening::Bare(s.len())
 }
@@ -98,7 +101,7 @@ pub fn open_line(s: &[u8]) -> Opening
     ensures { λ r. ⌜ r ≡ openLine (now (s .entry)) ⌝ }
 {
     match read_frame(s) {
-        Frame::Refused(n) => Opening::Silent(n),
+        Frame::Refused(n) => Opening::Silent(n, NOWHERE),
         Frame::Content(c) => open_words(&s[..c + 1]),
     }
 }
@@ -115,10 +118,11 @@ fn up_to(s: &[u8], end: usize) -> &[u8]
 pub fn read_line(s: &[u8], o: Opening) -> LineRead
     ensures read { λ r. ⌜ r ≡ readOn (now (s .entry)) o ⌝ }
     ensures number { λ r. ⌜ (o ≡ openLine (now (s .entry)) → numberOf r ≡ refusalOf (now (s .entry))) ⌝ }
+    ensures place { λ r. ⌜ (o ≡ openLine (now (s .entry)) → placeRead r ≡ placeOf (now (s .entry))) ⌝ }
     ensures asked { λ r. ⌜ (o ≡ openLine (now (s .entry)) → askedBy (now (s .entry)) r ≡ readAsked (now (s .entry))) ⌝ }
 {
     match o {
-        Opening::Silent(n) => LineRead::Silent(n),
+        Opening::Silent(n, p) => LineRead::Silent(n, p),
         Opening::Bare(end) => {
             let t = up_to(s, end);
             LineRead::Addressed(0, 0, t.len(), phrase::reading::read_command(t, 1))

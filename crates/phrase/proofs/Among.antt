@@ -15,8 +15,7 @@ use Rattle.words.proofs.Index.{distinct, place}
 use Rattle.words.proofs.Table.{meaning-at}
 use Rattle.command.specs.Settings.{axisSettings, deviceSettings, nameOf}
 use Rattle.phrase.specs.declared.SettingRead.the-variants.{Unknown}
-use Rattle.phrase.specs.declared.WordsRead.the-variants.{Refused}
-use Rattle.phrase.specs.Reading.{firsts, moves, tools, parkings, deviceNames, names}
+use Rattle.phrase.specs.Reading.{unknown, misspelt, firsts, moves, tools, parkings, deviceNames, names}
 
 -- what holds of each element, listed in order
 infixr 40 _also_
@@ -64,19 +63,19 @@ no-name d w [] none = refl
 no-name d w (e ∷ es) (more h hs) = rw h (no-name d w es hs)
 
 -- the names of each table are all different
-pub firsts-apart : distinct (wordsOf (Refused 10) (firsts 0 [])) ≡ true
+pub firsts-apart : distinct (wordsOf unknown (firsts [])) ≡ true
 unfolding distinct index same text
 firsts-apart = refl
 
-pub moves-apart : distinct (wordsOf (Refused 10) (moves [])) ≡ true
+pub moves-apart : distinct (wordsOf unknown (moves [])) ≡ true
 unfolding distinct index same text
 moves-apart = refl
 
-pub tools-apart : distinct (wordsOf (Refused 10) (tools 0 [])) ≡ true
+pub tools-apart : distinct (wordsOf unknown (tools 0 [])) ≡ true
 unfolding distinct index same text
 tools-apart = refl
 
-pub parkings-apart : distinct (wordsOf (Refused 11) (parkings [])) ≡ true
+pub parkings-apart : distinct (wordsOf misspelt (parkings [])) ≡ true
 unfolding distinct index same text
 parkings-apart = refl
 

@@ -1,17 +1,17 @@
--- How a command's words are read: the command, or the refusal 10 or 11.
+-- How a command's words are read, each with its place in the line: the command, or the refusal 10 or 11 and its place.
 -- 10 is given at a word that the table does not have, before any word behind it is looked at, and so before 11.
--- p is the place where the words behind the second one begin: an echo carries these, and no other command carries any.
+-- A place is told with 11 where a number refuses; specs/Place.antt says by the table where that is.
 use mathlib.Core.Bool.{cond}
 use mathlib.Core.List.{List, [], _∷_, _++_, map}
-use Prim.Native.Nat.{ℕ}
+use Prim.Native.Nat.{ℕ, _+_}
 use Rattle.laws.specs.Text.{text, same}
-use Rattle.laws.specs.Refusals.{BADCOMMAND, BADDATA}
+use Rattle.laws.specs.Refusals.{BADCOMMAND, BADDATA, NOWHERE, inByte}
 use Rattle.units.specs.Units.{position, speed}
 use Rattle.units.specs.declared.Number.{Number}
 use Rattle.numbers.specs.Reading.{readNumber}
 use Rattle.numbers.specs.declared.NumberRead.{NumberRead}
 use Rattle.numbers.specs.declared.NumberRead.the-variants as Number
-use Rattle.words.specs.Cutting.{headWord, tailWords}
+use Rattle.words.specs.Cutting.{Placed, behind}
 use Rattle.words.specs.Find.{Entry, _means_, meaningOf}
 use Rattle.command.specs.declared.Setting.{Setting}
 use Rattle.command.specs.declared.Setting.the-variants as Setting
@@ -20,7 +20,7 @@ use Rattle.command.specs.declared.AxisCommand.the-variants.{Nothing, Home, Stop
 use Rattle.command.specs.declared.DeviceCommand.the-variants.{ParkingState, Park, Unpark, Echo}
 use Rattle.command.specs.declared.Command.{Command}
 use Rattle.command.specs.declared.Command.the-variants.{OfAxes, OfDevice}
-use Rattle.command.specs.Commands.{getCommand, setCommand, carriesWords}
+use Rattle.command.specs.Commands.{getCommand, setCommand}
 use Rattle.command.specs.Settings.{axisSettings, deviceSettings, nameOf, readOnly}
 use Rattle.phrase.specs.declared.SettingRead.{SettingRead}
 use Rattle.phrase.specs.declared.SettingRead.the-variants.{Is, Unknown}
@@ -30,10 +30,17 @@ use Rattle.phrase.specs.declared.WordsRead.{WordsRead}
 use Rattle.phrase.specs.declared.WordsRead.the-variants.{Refused}
 use Rattle.phrase.specs.declared.WordsRead.the-variants as Words
 
+-- the refusals that have no place
+abbrev pub unknown : WordsRead
+unknown = Refused BADCOMMAND NOWHERE
+
+abbrev pub misspelt : WordsRead
+misspelt = Refused BADDATA NOWHERE
+
 -- a command with no word behind it
-unfoldable pub ended : Command → List (List ℕ) → WordsRead
+unfoldable pub ended : Command → List Placed → WordsRead
 ended c [] = Words.Command c 0
-ended c (w ∷ ws) = Refused BADDATA
+ended c (w ∷ ws) = misspelt
 
 -- the command of a row that waits for its number
 abbrev pub numbered : Numbered → Number → Command
@@ -46,18 +53,19 @@ numbered With.Store n = OfAxes (Storepos n)
 numbered (With.StoreAt m) n = OfAxes (StoreposAt m (position (n .0)))
 numbered With.StoreCurrent n = OfAxes (StoreposCurrent n)
 
-abbrev pub made : Numbered → NumberRead → WordsRead
-made k (Number.Value n) = Words.Command (numbered k n) 0
-made k (Number.Refused p) = Refused BADDATA
+-- with the number whose word starts at place i; or the place where that refuses
+abbrev pub made : Numbered → ℕ → NumberRead → WordsRead
+made k i (Number.Value n) = Words.Command (numbered k n) 0
+made k i (Number.Refused p) = Refused BADDATA (inByte (i + p))
 
 -- a row whose last word is its number: one word is left, and it is a number
-unfoldable pub oneNumber : Numbered → List (List ℕ) → WordsRead
-oneNumber k [] = Refused BADDATA
-oneNumber k (w ∷ []) = made k (readNumber w)
-oneNumber k (w ∷ v ∷ ws) = Refused BADDATA
+unfoldable pub oneNumber : Numbered → List Placed → WordsRead
+oneNumber k [] = misspelt
+oneNumber k (w ∷ []) = made k (w .start) (readNumber (w .bytes))
+oneNumber k (w ∷ v ∷ ws) = misspelt
 
 -- behind `move`
-abbrev pub moves : List (List ℕ) → List (Entry WordsRead)
+abbrev pub moves : List Placed → List (Entry WordsRead)
 moves ws =
     text "abs" means oneNumber With.MoveAbs ws
     ∷ text "rel" means oneNumber With.MoveRel ws
@@ -67,8 +75,9 @@ moves ws =
     ∷ text "stored" means oneNumber With.MoveStored ws
     ∷ []
 
-unfoldable pub readMove : List (List ℕ) → WordsRead
-readMove ws = meaningOf (Refused BADCOMMAND) (headWord ws) (moves (tailWords ws))
+unfoldable pub readMove : List Placed → WordsRead
+readMove [] = unknown
+readMove (w ∷ ws) = meaningOf unknown (w .bytes) (moves ws)
 
 -- the settings by their names
 abbrev pub settings : List Setting
@@ -90,76 +99,78 @@ unfoldable pub readSetting : List ℕ → SettingRead
 readSetting w = meaningOf Unknown w names
 
 -- behind `get`
-abbrev pub getOf : SettingRead → List (List ℕ) → WordsRead
-getOf Unknown ws = Refused BADCOMMAND
+abbrev pub getOf : SettingRead → List Placed → WordsRead
+getOf Unknown ws = unknown
 getOf (Is s) ws = ended (getCommand s) ws
 
-unfoldable pub readGet : List (List ℕ) → WordsRead
-readGet ws = getOf (readSetting (headWord ws)) (tailWords ws)
+unfoldable pub readGet : List Placed → WordsRead
+readGet [] = unknown
+readGet (w ∷ ws) = getOf (readSetting (w .bytes)) ws
 
 -- behind `set`: "set of a read-only setting" is 10
-abbrev pub setOf : SettingRead → List (List ℕ) → WordsRead
-setOf Unknown ws = Refused BADCOMMAND
-setOf (Is s) ws = cond (readOnly s) (Refused BADCOMMAND) (oneNumber (With.SetTo s) ws)
+abbrev pub setOf : SettingRead → List Placed → WordsRead
+setOf Unknown ws = unknown
+setOf (Is s) ws = cond (readOnly s) unknown (oneNumber (With.SetTo s) ws)
 
-unfoldable pub readSet : List (List ℕ) → WordsRead
-readSet ws = setOf (readSetting (headWord ws)) (tailWords ws)
+unfoldable pub readSet : List Placed → WordsRead
+readSet [] = unknown
+readSet (w ∷ ws) = setOf (readSetting (w .bytes)) ws
 
 -- behind `tools storepos`: N; N P; N current
-abbrev pub storeAt : NumberRead → List ℕ → WordsRead
-storeAt (Number.Refused p) v = Refused BADDATA
-storeAt (Number.Value n) v = made (With.StoreAt n) (readNumber v)
+abbrev pub storeAt : ℕ → NumberRead → Placed → WordsRead
+storeAt i (Number.Refused p) v = Refused BADDATA (inByte (i + p))
+storeAt i (Number.Value n) v = made (With.StoreAt n) (v .start) (readNumber (v .bytes))
 
-unfoldable pub readStorepos : List (List ℕ) → WordsRead
-readStorepos [] = Refused BADDATA
-readStorepos (w ∷ []) = made With.Store (readNumber w)
-readStorepos (w ∷ v ∷ []) = cond (same v (text "current")) (made With.StoreCurrent (readNumber w)) (storeAt (readNumber w) v)
-readStorepos (w ∷ v ∷ u ∷ ws) = Refused BADDATA
+unfoldable pub readStorepos : List Placed → WordsRead
+readStorepos [] = misspelt
+readStorepos (w ∷ []) = made With.Store (w .start) (readNumber (w .bytes))
+readStorepos (w ∷ v ∷ []) =
+    let n = readNumber (w .bytes) in
+    cond (same (v .bytes) (text "current")) (made With.StoreCurrent (w .start) n) (storeAt (w .start) n v)
+readStorepos (w ∷ v ∷ u ∷ ws) = misspelt
 
 -- behind `tools parking`
-abbrev pub parkings : List (List ℕ) → List (Entry WordsRead)
+abbrev pub parkings : List Placed → List (Entry WordsRead)
 parkings ws =
     text "state" means ended (OfDevice ParkingState) ws
     ∷ text "park" means ended (OfDevice Park) ws
     ∷ text "unpark" means ended (OfDevice Unpark) ws
     ∷ []
 
-unfoldable pub readParking : List (List ℕ) → WordsRead
-readParking ws = meaningOf (Refused BADDATA) (headWord ws) (parkings (tailWords ws))
+unfoldable pub readParking : List Placed → WordsRead
+readParking [] = misspelt
+readParking (w ∷ ws) = meaningOf misspelt (w .bytes) (parkings ws)
 
--- behind `tools`
-abbrev pub tools : ℕ → List (List ℕ) → List (Entry WordsRead)
+-- behind `tools`: p is the place behind the word `echo`, where the words begin that it carries
+abbrev pub tools : ℕ → List Placed → List (Entry WordsRead)
 tools p ws =
     text "storepos" means readStorepos ws
     ∷ text "parking" means readParking ws
     ∷ text "echo" means Words.Command (OfDevice Echo) p
     ∷ []
 
-unfoldable pub readTools : ℕ → List (List ℕ) → WordsRead
-readTools p ws = meaningOf (Refused BADCOMMAND) (headWord ws) (tools p (tailWords ws))
+unfoldable pub readTools : List Placed → WordsRead
+readTools [] = unknown
+readTools (w ∷ ws) = meaningOf unknown (w .bytes) (tools (behind w) ws)
 
 -- behind `warnings`
-unfoldable pub readWarnings : List (List ℕ) → WordsRead
+unfoldable pub readWarnings : List Placed → WordsRead
 readWarnings [] = Words.Command (OfAxes Warnings) 0
-readWarnings (w ∷ ws) = cond (same w (text "clear")) (ended (OfAxes WarningsClear) ws) (Refused BADDATA)
+readWarnings (w ∷ ws) = cond (same (w .bytes) (text "clear")) (ended (OfAxes WarningsClear) ws) misspelt
 
 -- the first word
-abbrev pub firsts : ℕ → List (List ℕ) → List (Entry WordsRead)
-firsts p ws =
+abbrev pub firsts : List Placed → List (Entry WordsRead)
+firsts ws =
     text "home" means ended (OfAxes Home) ws
     ∷ text "stop" means ended (OfAxes Stop) ws
     ∷ text "estop" means ended (OfAxes Estop) ws
     ∷ text "move" means readMove ws
     ∷ text "get" means readGet ws
     ∷ text "set" means readSet ws
-    ∷ text "tools" means readTools p ws
+    ∷ text "tools" means readTools ws
     ∷ text "warnings" means readWarnings ws
     ∷ []
 
-unfoldable pub readCommand : ℕ → List (List ℕ) → WordsRead
-readCommand p [] = Words.Command (OfAxes Nothing) 0
-readCommand p (w ∷ ws) = meaningOf (Refused BADCOMMAND) w (firsts p ws)
-
--- "An echo command carries its words as a list": where a command's words begin, 0 where it carries none
-abbrev pub echoPlace : Command → ℕ → ℕ
-echoPlace c p = cond (carriesWords c) p 0
+unfoldable pub readCommand : List Placed → WordsRead
+readCommand [] = Words.Command (OfAxes Nothing) 0
+readCommand (w ∷ ws) = meaningOf unknown (w .bytes) (firsts ws)

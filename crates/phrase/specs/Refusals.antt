@@ -54,7 +54,7 @@ justSo (p ∷ ps) (w ∷ ws) = stands p w && justSo ps ws
 abbrev begins : List (List ℕ) → Row → Bool
 begins ws r = beginSo (r .front) ws
 
-abbrev fits : List (List ℕ) → Row → Bool
+abbrev pub fits : List (List ℕ) → Row → Bool
 fits ws r = beginSo (r .front) ws && (anyWords r || justSo (r .behind) (drop (length (r .front)) ws))
 
 -- 10, "first word unknown; second word of move or tools, or setting, unknown or missing; set of a read-only setting":
@@ -71,7 +71,7 @@ badData (v ∷ ws) = not (any (fits (v ∷ ws)) table)
 -- document 01's number for what words are read as: "Accepted is 0"
 abbrev pub wordsNumber : WordsRead → ℕ
 wordsNumber (Words.Command c p) = 0
-wordsNumber (Words.Refused n) = n
+wordsNumber (Words.Refused n p) = n
 
 -- "Checks run in the table's order and the first that applies wins."
 unfoldable pub wordsRefusal : List (List ℕ) → ℕ

@@ -4,20 +4,34 @@
 ghost use mathlib.Core.Path.{_≡_};
 ghost use Rattle.command.specs.Commands.{setCommand};
 ghost use Rattle.phrase.specs.Reading.{numbered as numberedBy, made};
+ghost use Rattle.phrase.specs.Place.{Places, placeTold};
 use command::AxisCommand;
 use command::Command;
 use command::DeviceCommand;
 use command::Setting;
 use command::Target;
 use laws::BADDATA;
+use laws::NOWHERE;
 use numbers::NumberRead;
 use units::Number;
 
 // What a command's words come to: the command, and the place where the words that it carries begin, 0 where it carries none;
-// or the number of the refusal.
+// or the number of the refusal and its place in the line.
 pub enum WordsRead {
     Command(Command, usize),
-    Refused(u8),
+    Refused(u8, u8),
+}
+
+impl WordsRead {
+    // The place that is told with a refusal; 255 where there is none.
+    pub fn place(self) -> u8
+        ensures { λ r. ⌜ r ≡ placeTold self ⌝ }
+    {
+        match self {
+            WordsRead::Command(_, _) => NOWHERE,
+            WordsRead::Refused(_, p) => p,
+        }
+    }
 }
 
 // The setting that a word names.
@@ -65,13 +79,14 @@ impl Numbered {
         }
     }
 
-    // The row with its number, or 11 where it is none.
-    pub(crate) fn made(self, n: NumberRead) -> WordsRead
-        ensures { λ r. ⌜ r ≡ made self n ⌝ }
+    // The row with its number, whose word starts at a place; or 11 where it is none, and where it refuses.
+    pub(crate) fn made(self, start: usize, n: NumberRead) -> WordsRead
+        requires { ⌜ Places start n ⌝ }
+        ensures { λ r. ⌜ r ≡ made self start n ⌝ }
     {
         match n {
             NumberRead::Value(v) => WordsRead::Command(self.with(v), 0),
-            NumberRead::Refused(_) => WordsRead::Refused(BADDATA),
+            NumberRead::Refused(p) => WordsRead::Refused(BADDATA, ((start + p) % 256) as u8),
         }
     }
 }

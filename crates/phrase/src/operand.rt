@@ -1,8 +1,7 @@
 // Reads what stands behind a command's word: no word more, one number, or the name of a setting.
 // The rules are in specs/Reading.antt.
 ghost use mathlib.Core.Path.{_≡_};
-ghost use lib.ListN.{drop};
-ghost use Rattle.words.specs.Cutting.{cut};
+ghost use Rattle.words.specs.Cutting.{wordsAt};
 ghost use Rattle.words.specs.Find.{meaningOf};
 ghost use Rattle.phrase.specs.declared.SettingRead.the-variants.{Unknown};
 ghost use Rattle.phrase.specs.Reading.{ended, oneNumber, deviceNames, readSetting};
@@ -14,15 +13,16 @@ use command::Command;
 use command::DeviceSetting;
 use command::Setting;
 use laws::BADDATA;
+use laws::NOWHERE;
 use words::Word;
 use words::same_bytes;
 
 // The command c, where no word is left.
 pub(crate) fn ended_at(s: &[u8], at: usize, c: Command) -> WordsRead
-    ensures { λ r. ⌜ r ≡ ended c (cut (drop at (now (s .entry)))) ⌝ }
+    ensures { λ r. ⌜ r ≡ ended c (wordsAt (now (s .entry)) at) ⌝ }
 {
     if words::start_of(s, at) < s.len() {
-        WordsRead::Refused(BADDATA)
+        WordsRead::Refused(BADDATA, NOWHERE)
     } else {
         WordsRead::Command(c, 0)
     }
@@ -30,13 +30,16 @@ pub(crate) fn ended_at(s: &[u8], at: usize, c: Command) -> WordsRead
 
 // The row k, where one word is left and is its number.
 pub(crate) fn one_number(s: &[u8], at: usize, k: Numbered) -> WordsRead
-    ensures { λ r. ⌜ r ≡ oneNumber k (cut (drop at (now (s .entry)))) ⌝ }
+    ensures { λ r. ⌜ r ≡ oneNumber k (wordsAt (now (s .entry)) at) ⌝ }
 {
     let Word { start, end } = words::word_at(s, at);
-    if words::start_of(s, end) < s.len() {
-        return WordsRead::Refused(BADDATA);
+    if start == end {
+        return WordsRead::Refused(BADDATA, NOWHERE);
     }
-    k.made(numbers::reading::read_number(&s[start..end]))
+    if words::start_of(s, end) < s.len() {
+        return WordsRead::Refused(BADDATA, NOWHERE);
+    }
+    k.made(start, numbers::reading::read_number(&s[start..end]))
 }
 
 // The setting of the device that a word names.

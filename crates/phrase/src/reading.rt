@@ -1,24 +1,24 @@
-// Reads a command's words, from a place of the content on: the command, or the refusal 10 or 11.
+// Reads a command's words, from a place of the content on: the command, or the refusal 10 or 11 and its place.
 // The rules are in specs/Reading.antt; proofs/Rows.antt shows that just what is spelled is read.
 ghost use mathlib.Core.Path.{_≡_};
-ghost use lib.ListN.{drop};
-ghost use Rattle.words.specs.Cutting.{cut, pastOf, pastMany};
+ghost use Rattle.words.specs.Cutting.{bytesOf, wordsAt};
 ghost use Rattle.words.specs.Find.{meaningOf};
-ghost use Rattle.phrase.specs.declared.WordsRead.the-variants.{Refused};
-ghost use Rattle.phrase.specs.Reading.{readWarnings, firsts, readCommand};
+ghost use Rattle.phrase.specs.Reading.{unknown, readWarnings, firsts, readCommand};
 ghost use Rattle.phrase.specs.Refusals.{wordsNumber, wordsRefusal};
+ghost use Rattle.phrase.specs.Place.{placeTold, wordsPlace};
 use crate::WordsRead;
 use crate::operand::ended_at;
 use command::AxisCommand;
 use command::Command;
 use laws::BADCOMMAND;
 use laws::BADDATA;
+use laws::NOWHERE;
 use words::Word;
 use words::same_bytes;
 
 // The words behind `warnings`.
 fn read_warnings(s: &[u8], at: usize) -> WordsRead
-    ensures { λ r. ⌜ r ≡ readWarnings (cut (drop at (now (s .entry)))) ⌝ }
+    ensures { λ r. ⌜ r ≡ readWarnings (wordsAt (now (s .entry)) at) ⌝ }
 {
     let Word { start, end } = words::word_at(s, at);
     if start == end {
@@ -27,12 +27,12 @@ fn read_warnings(s: &[u8], at: usize) -> WordsRead
     if same_bytes(&s[start..end], b"clear") {
         return ended_at(s, end, Command::OfAxes(AxisCommand::WarningsClear));
     }
-    WordsRead::Refused(BADDATA)
+    WordsRead::Refused(BADDATA, NOWHERE)
 }
 
 // Behind the first word w.
 fn first_of(s: &[u8], at: usize, w: &[u8]) -> WordsRead
-    ensures { λ r. ⌜ r ≡ meaningOf (Refused 10) (now (w .entry)) (firsts (pastOf (now (s .entry)) at) (cut (drop at (now (s .entry))))) ⌝ }
+    ensures { λ r. ⌜ r ≡ meaningOf unknown (now (w .entry)) (firsts (wordsAt (now (s .entry)) at)) ⌝ }
 {
     if same_bytes(w, b"home") {
         return ended_at(s, at, Command::OfAxes(AxisCommand::Home));
@@ -58,13 +58,14 @@ fn first_of(s: &[u8], at: usize, w: &[u8]) -> WordsRead
     if same_bytes(w, b"warnings") {
         return read_warnings(s, at);
     }
-    WordsRead::Refused(BADCOMMAND)
+    WordsRead::Refused(BADCOMMAND, NOWHERE)
 }
 
 // The words of a command, from a place on; an echo's words stand behind the first two.
 pub fn read_command(s: &[u8], at: usize) -> WordsRead
-    ensures read { λ r. ⌜ r ≡ readCommand (pastMany (now (s .entry)) at 2) (cut (drop at (now (s .entry)))) ⌝ }
-    ensures number { λ r. ⌜ wordsNumber r ≡ wordsRefusal (cut (drop at (now (s .entry)))) ⌝ }
+    ensures read { λ r. ⌜ r ≡ readCommand (wordsAt (now (s .entry)) at) ⌝ }
+    ensures number { λ r. ⌜ wordsNumber r ≡ wordsRefusal (bytesOf (wordsAt (now (s .entry)) at)) ⌝ }
+    ensures place { λ r. ⌜ placeTold r ≡ wordsPlace (wordsAt (now (s .entry)) at) ⌝ }
 {
     let Word { start, end } = words::word_at(s, at);
     if start == end {

@@ -1,12 +1,10 @@
 // Reads the words behind `move`, `get` and `set`.
 // The rules are in specs/Reading.antt.
 ghost use mathlib.Core.Path.{_≡_};
-ghost use lib.ListN.{drop};
-ghost use Rattle.words.specs.Cutting.{cut};
+ghost use Rattle.words.specs.Cutting.{wordsAt};
 ghost use Rattle.words.specs.Find.{meaningOf};
-ghost use Rattle.phrase.specs.declared.WordsRead.the-variants.{Refused};
 ghost use Rattle.command.specs.Commands.{getCommand};
-ghost use Rattle.phrase.specs.Reading.{moves, readMove, getOf, readGet, setOf, readSet};
+ghost use Rattle.phrase.specs.Reading.{unknown, moves, readMove, getOf, readGet, setOf, readSet};
 use crate::Numbered;
 use crate::SettingRead;
 use crate::WordsRead;
@@ -19,12 +17,13 @@ use command::DeviceCommand;
 use command::Setting;
 use command::Target;
 use laws::BADCOMMAND;
+use laws::NOWHERE;
 use words::Word;
 use words::same_bytes;
 
 // Behind `move` and the word w.
 fn move_of(s: &[u8], at: usize, w: &[u8]) -> WordsRead
-    ensures { λ r. ⌜ r ≡ meaningOf (Refused 10) (now (w .entry)) (moves (cut (drop at (now (s .entry))))) ⌝ }
+    ensures { λ r. ⌜ r ≡ meaningOf unknown (now (w .entry)) (moves (wordsAt (now (s .entry)) at)) ⌝ }
 {
     if same_bytes(w, b"abs") {
         return one_number(s, at, Numbered::MoveAbs);
@@ -44,12 +43,12 @@ fn move_of(s: &[u8], at: usize, w: &[u8]) -> WordsRead
     if same_bytes(w, b"stored") {
         return one_number(s, at, Numbered::MoveStored);
     }
-    WordsRead::Refused(BADCOMMAND)
+    WordsRead::Refused(BADCOMMAND, NOWHERE)
 }
 
 // The words behind `move`.
 pub(crate) fn read_move(s: &[u8], at: usize) -> WordsRead
-    ensures { λ r. ⌜ r ≡ readMove (cut (drop at (now (s .entry)))) ⌝ }
+    ensures { λ r. ⌜ r ≡ readMove (wordsAt (now (s .entry)) at) ⌝ }
 {
     let Word { start, end } = words::word_at(s, at);
     move_of(s, end, &s[start..end])
@@ -67,17 +66,17 @@ fn get_command(s: Setting) -> Command
 
 // Behind `get` and the name of x.
 fn get_of(s: &[u8], at: usize, x: SettingRead) -> WordsRead
-    ensures { λ r. ⌜ r ≡ getOf x (cut (drop at (now (s .entry)))) ⌝ }
+    ensures { λ r. ⌜ r ≡ getOf x (wordsAt (now (s .entry)) at) ⌝ }
 {
     match x {
-        SettingRead::Unknown => WordsRead::Refused(BADCOMMAND),
+        SettingRead::Unknown => WordsRead::Refused(BADCOMMAND, NOWHERE),
         SettingRead::Is(t) => ended_at(s, at, get_command(t)),
     }
 }
 
 // The words behind `get`.
 pub(crate) fn read_get(s: &[u8], at: usize) -> WordsRead
-    ensures { λ r. ⌜ r ≡ readGet (cut (drop at (now (s .entry)))) ⌝ }
+    ensures { λ r. ⌜ r ≡ readGet (wordsAt (now (s .entry)) at) ⌝ }
 {
     let Word { start, end } = words::word_at(s, at);
     get_of(s, end, read_setting(&s[start..end]))
@@ -85,13 +84,13 @@ pub(crate) fn read_get(s: &[u8], at: usize) -> WordsRead
 
 // Behind `set` and the name of x.
 fn set_of(s: &[u8], at: usize, x: SettingRead) -> WordsRead
-    ensures { λ r. ⌜ r ≡ setOf x (cut (drop at (now (s .entry)))) ⌝ }
+    ensures { λ r. ⌜ r ≡ setOf x (wordsAt (now (s .entry)) at) ⌝ }
 {
     match x {
-        SettingRead::Unknown => WordsRead::Refused(BADCOMMAND),
+        SettingRead::Unknown => WordsRead::Refused(BADCOMMAND, NOWHERE),
         SettingRead::Is(t) => {
             if t.read_only() {
-                return WordsRead::Refused(BADCOMMAND);
+                return WordsRead::Refused(BADCOMMAND, NOWHERE);
             }
             one_number(s, at, Numbered::SetTo(t))
         }
@@ -100,7 +99,7 @@ fn set_of(s: &[u8], at: usize, x: SettingRead) -> WordsRead
 
 // The words behind `set`.
 pub(crate) fn read_set(s: &[u8], at: usize) -> WordsRead
-    ensures { λ r. ⌜ r ≡ readSet (cut (drop at (now (s .entry)))) ⌝ }
+    ensures { λ r. ⌜ r ≡ readSet (wordsAt (now (s .entry)) at) ⌝ }
 {
     let Word { start, end } = words::word_at(s, at);
     set_of(s, end, read_setting(&s[start..end]))

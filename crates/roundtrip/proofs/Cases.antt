@@ -12,7 +12,7 @@ use Rattle.laws.specs.Text.{text, spaced}
 use Rattle.units.specs.Units.{position, number}
 use Rattle.numbers.specs.Checksum.{total, checksum, sumText}
 use Rattle.numbers.specs.Decimal.{lastDigit, digitsWithin, digits, decimal, twoDigits, hexDigit, hexPair}
-use Rattle.words.specs.Cutting.{isSpace, noSpace, grow, cut}
+use Rattle.words.specs.Cutting.{isSpace, noSpace, growAt, wordsFrom, cut}
 use Rattle.command.specs.Settings.{nameOf}
 use Rattle.command.specs.declared.AxisSetting.the-variants.{Pos}
 use Rattle.command.specs.declared.DeviceSetting.the-variants.{DeviceId}
@@ -77,10 +77,10 @@ numbered o = o .answer .number
 
 pub number-cases : map (λ r. numbered (written r)) rows ≡ map (λ r. r .number) rows
 unfolding rows writeLine writerRefusal firstOf unspellable lineText lineEnd lineWords spaced text fold dataByte nameOf cut isSpace noSpace
-    grow total checksum sumText lastDigit digitsWithin digits decimal twoDigits hexDigit hexPair
+    growAt wordsFrom total checksum sumText lastDigit digitsWithin digits decimal twoDigits hexDigit hexPair
 number-cases = refl
 
 pub line-cases : map (λ r. take (written r .answer .length) (written r .buffer)) rows ≡ map (λ r. r .line) rows
 unfolding rows writeLine writerRefusal firstOf unspellable lineText lineEnd lineWords spaced text fold dataByte nameOf cut isSpace noSpace
-    grow total checksum sumText lastDigit digitsWithin digits decimal twoDigits hexDigit hexPair
+    growAt wordsFrom total checksum sumText lastDigit digitsWithin digits decimal twoDigits hexDigit hexPair
 line-cases = refl

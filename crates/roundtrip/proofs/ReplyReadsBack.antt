@@ -49,7 +49,7 @@ pub record Heard (s : Stepped) (k : ℕ) (ok : Bool) (words : List ℕ) : Type 0
 -- What the host understands of the answer s to a line: the axis is the one that was read of the line, OK stands exactly where the
 -- number is 0, and the data are the refusal's name or those of the command that was read. A line that is not read has no reply.
 abbrev pub Understood : Device → List ℕ → LineRead → Stepped → Type 0
-Understood d l (Silent n) s = ⊥
+Understood d l (Silent n p) s = ⊥
 Understood d l (Addressed a k end w) s = Heard s k (eqb (s .answer .number) 0) (dataFor d l k end w (s .answer .number))
 
 -- ---- a record that replies is good
@@ -92,9 +92,9 @@ module _ (d : Device) (l b : List ℕ) where
   unfolding rejected
   refused-heard n k r g = reply-heard n d k false (refusalName n) b g (name-data r) (omega (arith, refusal-length n))
 
-  misspelt-reads : (a k end m : ℕ) → readLine l ≡ Addressed a k end (Words.Refused m) → good d ≡ true → Reading (rejected m d k b)
+  misspelt-reads : (a k end m p : ℕ) → readLine l ≡ Addressed a k end (Words.Refused m p) → good d ≡ true → Reading (rejected m d k b)
   unfolding rejected written
-  misspelt-reads a k end m is g h after =
+  misspelt-reads a k end m p is g h after =
       let r : Rejecting m = subst (Rejects Rejecting) is (line-rejects l) in rw (is, not-zero r) (refused-heard m k r g)
 
   refused-reads : (a k end from : ℕ) (c : Command) → readLine l ≡ Addressed a k end (Words.Command c from) → good d ≡ true
@@ -117,7 +117,7 @@ module _ (d : Device) (l b : List ℕ) where
   pub reply-reads-back : length (d .axes) ≡ 4 → (step d l b .answer .length ≡ 0 → ⊥) → Understood d l (readLine l) (step d l b)
   unfolding silent
   reply-reads-back four h =
-      each-answer Reading d l b (λ z h. absurd (h refl)) (λ a k end m is w g. misspelt-reads a k end m is g) refused-reads
+      each-answer Reading d l b (λ z h. absurd (h refl)) (λ a k end m p is w g. misspelt-reads a k end m p is g) refused-reads
       (accepted-reads four)
       h
       (good-goes-on d l b (replies-good d l b h))

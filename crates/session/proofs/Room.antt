@@ -1,7 +1,8 @@
 -- What bench prints always has room in its buffer of 96 times 4,096 bytes: a part has a byte at least and prints 96 at most.
 -- So nothing that it prints is ever cut. Assumes nothing.
 use mathlib.Core.Path.{_≡_, refl}
-use mathlib.Core.Bool.{Bool, true, false, cond}
+use mathlib.Core.Logic.{_⊎_, inl}
+use mathlib.Core.Bool.{Bool, true, false, cond, not, _&&_}
 use mathlib.Core.List.{List, [], _∷_}
 use Prim.Native.Nat.{ℕ, suc, _*_, _≤_, _<_}
 use native.Mathlib.Omega.{arith}
@@ -10,9 +11,13 @@ use lib.ListN.{length, take, replicate, length-append, length-take}
 use borrow.Author.Tests.{eqb-true}
 use Rattle.laws.specs.Text.{LF, text}
 use Rattle.words.specs.Cutting.{grow}
+use Rattle.line.specs.Reading.{readLine, placeRead}
+use Rattle.line.proofs.Refused.{line-placed}
+use Rattle.line.proofs.WentWrong.{place-short}
 use Rattle.device.specs.declared.Device.{Device}
+use Rattle.device.specs.Good.{good}
 use Rattle.reply.specs.Data.{refusalName}
-use Rattle.carriage.specs.Step.{Stepped, silent, written, rejected, accepted, step}
+use Rattle.carriage.specs.Step.{Stepped, silent, written, rejected, accepted, notMine, step, refusedAt}
 use Rattle.carriage.specs.Report.{report}
 use Rattle.carriage.proofs.Demands.{every-answer}
 use Rattle.carriage.proofs.Room.{reply-at-most-96, silence-small, report-small}
@@ -22,8 +27,8 @@ use Rattle.input.specs.declared.reports.ReportRead.the-variants.{Report, Misspe
 use Rattle.input.specs.ReportLines.{readReport}
 use Rattle.input.specs.Parts.{parts}
 use Rattle.input.specs.Prints.{isReport, told, answered}
-use Rattle.input.proofs.Prints.{told-short}
-use Rattle.session.specs.Bench.{reportTurn, lineTurn, turn, turns, benchDevice, bench}
+use Rattle.input.proofs.Prints.{told-short, caret-short}
+use Rattle.session.specs.Bench.{reportTurn, lineTurn, turn, shown, turns, benchDevice, bench}
 
 -- ---- a report
 report-short : (d : Device) (r : ReportRead) → length (reportTurn d r .prints) ≤ 96
@@ -61,6 +66,21 @@ turn-short d p = go (isReport p)
     go : (t : Bool) → length (cond t (reportTurn d (readReport p)) (lineTurn d p) .prints) ≤ 96
     go true = report-short d (readReport p)
     go false = line-short d p
+
+-- the place of a line is told for this device, or none is
+place-for : (d : Device) (l : List ℕ) → (refusedAt d l ≡ 255) ⊎ (refusedAt d l < 80)
+unfolding refusedAt
+place-for d l = go (good d && not (notMine d (readLine l))) (rw (← line-placed l) at (place-short l))
+  where
+    go : (t : Bool) → (placeRead (readLine l) ≡ 255) ⊎ (placeRead (readLine l) < 80)
+        → (cond t (placeRead (readLine l)) 255 ≡ 255) ⊎ (cond t (placeRead (readLine l)) 255 < 80)
+    go true h = h
+    go false h = inl refl
+
+-- what a person is shown of one part has room in console's buffer of 177 bytes
+pub shown-short : (d : Device) (p : List ℕ) → length (shown d p .prints) ≤ 177
+unfolding shown
+shown-short d p = rw length-append (omega (arith, caret-short (refusedAt d p) (place-for d p), turn-short d p))
 
 turns-short : (d : Device) (ps : List (List ℕ)) → length (turns d ps) ≤ 96 * length ps
 unfolding turns

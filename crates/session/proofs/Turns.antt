@@ -13,15 +13,15 @@ use Rattle.buffer.proofs.Wrote.{_▸_, wrote-none, wrote-one}
 use Rattle.device.specs.declared.Device.{Device}
 use Rattle.device.specs.declared.Outcome.{Outcome}
 use Rattle.carriage.specs.declared.Answer.{Answer}
-use Rattle.carriage.specs.Step.{Gives, step}
+use Rattle.carriage.specs.Step.{Gives, step, refusedAt}
 use Rattle.input.specs.declared.reports.ReportRead.{ReportRead}
 use Rattle.input.specs.ReportLines.{readReport}
 use Rattle.session.specs.declared.Turned.{Turned}
 use Rattle.input.specs.Parts.{parts, firstPart}
-use Rattle.input.specs.Prints.{isReport, told, answered}
+use Rattle.input.specs.Prints.{isReport, told, answered, caret}
 use Rattle.input.proofs.Parted.{part-inside, part-first}
 use Rattle.input.proofs.Prints.{first-bytes}
-use Rattle.session.specs.Bench.{Turn, Took, reportOutcome, lineTurn, reportTurn, turn, turns, benchDevice, bench}
+use Rattle.session.specs.Bench.{Turn, Took, reportOutcome, lineTurn, reportTurn, turn, shown, turns, benchDevice, bench}
 
 -- ---- a line, a report
 module _ (d : Device) (p : List ℕ) {b o : List ℕ} {at r : ℕ} where
@@ -52,6 +52,13 @@ module _ (d : Device) (p : List ℕ) {b o : List ℕ} {at : ℕ} {r : Turned} {t
   pub turn-line : t ≡ false → Took (lineTurn d p) b at r o → Took (turn d p) b at r o
   unfolding turn
   turn-line h k = rw (sym said ∙ h) k
+
+-- what a part shows: its caret, and behind that what bench prints
+pub took-shown : (d : Device) (p : List ℕ) {b o c : List ℕ} {at r q : ℕ} {t : Turned} → r ≡ refusedAt d p → Wrote b at (caret r) o q
+    → Took (turn d p) o q t c
+    → Took (shown d p) b at t c
+unfolding shown
+took-shown d p e v k = record { prints = rw (← e) (v ▸ k .prints); next = k .next }
 
 -- ---- the loop over the parts: what it has printed, with what the parts from `at` on print, is the whole
 pub record Running (first : Device) (s b : List ℕ) (d : Device) (o : List ℕ) (place at : ℕ) : Type 0 where

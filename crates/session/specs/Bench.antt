@@ -14,13 +14,13 @@ use Rattle.device.specs.declared.Device.{Device}
 use Rattle.device.specs.declared.Outcome.{Outcome}
 use Rattle.device.specs.Record.{fresh}
 use Rattle.reply.specs.Reply.{longestReply}
-use Rattle.carriage.specs.Step.{step}
+use Rattle.carriage.specs.Step.{step, refusedAt}
 use Rattle.carriage.specs.Report.{report}
 use Rattle.input.specs.declared.reports.ReportRead.{ReportRead}
 use Rattle.input.specs.declared.reports.ReportRead.the-variants.{Report, Misspelt}
 use Rattle.input.specs.ReportLines.{readReport}
 use Rattle.input.specs.Parts.{parts}
-use Rattle.input.specs.Prints.{isReport, told, answered}
+use Rattle.input.specs.Prints.{isReport, told, answered, caret}
 use Rattle.session.specs.declared.Turned.{Turned}
 
 -- what a part prints, and the next record
@@ -45,6 +45,10 @@ lineTurn d p =
 
 unfoldable pub turn : Device → List ℕ → Turn
 turn d p = cond (isReport p) (reportTurn d (readReport p)) (lineTurn d p)
+
+-- order 3: a person is shown where a line went wrong, and then what bench prints
+unfoldable pub shown : Device → List ℕ → Turn
+shown d p = record { prints = caret (refusedAt d p) ++ turn d p .prints; next = turn d p .next }
 
 unfoldable pub turns : Device → List (List ℕ) → List ℕ
 turns d [] = []

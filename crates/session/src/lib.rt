@@ -4,12 +4,13 @@ ghost use mathlib.Core.Path.{_≡_};
 ghost use Rattle.buffer.specs.Wrote.{Wrote};
 ghost use Rattle.input.specs.Parts.{parts as partsOf};
 ghost use Rattle.input.specs.ReportLines.{readReport};
-ghost use Rattle.session.specs.Bench.{Took, reportOutcome, reportTurn, lineTurn, turn as turnOf, turns as turnsOf, bench, benchDevice as benchDeviceOf};
+ghost use Rattle.session.specs.Bench.{Took, reportOutcome, reportTurn, lineTurn, turn as turnOf, shown, turns as turnsOf, bench, benchDevice as benchDeviceOf};
 use device::Device;
 use device::Outcome;
 use input::parts::is_report;
 use input::parts::part_end;
 use input::parts::put_answer;
+use input::parts::put_caret;
 use input::parts::put_told;
 use input::reports::ReportRead;
 use laws::BADREPORT;
@@ -71,6 +72,14 @@ pub fn turn(d: Device, part: &[u8], out: &mut [u8], at: usize) -> Turned
     } else {
         line_turn(d, part, out, at)
     }
+}
+
+// What one part makes of a record, and what it shows to a person: where it went wrong, and what bench prints.
+pub fn show(d: Device, part: &[u8], out: &mut [u8], at: usize) -> Turned
+    ensures { λ t. ⌜ Took (shown d (now (part .entry))) (now (out .entry)) at t (now (out .exit)) ⌝ }
+{
+    let place = put_caret(out, at, carriage::refused_at(d, part));
+    turn(d, part, out, place)
 }
 
 // The record that bench begins with.

@@ -9,7 +9,7 @@ use lib.Dec.{eqb}
 use borrow.Author.Tests.{eqb-true}
 use lib.ListN.{length, getD, take, drop, drop-of-length-le}
 use Rattle.words.specs.Cutting.{cut}
-use Rattle.words.proofs.Cut.{Part, cut-none}
+use Rattle.words.proofs.Cut.{Part, part-cut, cut-none}
 use Rattle.laws.specs.Text.{same}
 use Rattle.laws.proofs.Bools.{and-left, and-right}
 use Rattle.words.specs.Find.{index}
@@ -55,10 +55,10 @@ module _ (w s : List ℕ) (k at : ℕ) (so : k + index w (cut (drop at s)) ≡ i
 
   module _ (a e : ℕ) (p : Part s at a e) where
     pub here : same w (take (e - a) (drop a s)) ≡ true → k ≡ index w (cut s)
-    here h = let y = rw (p .words, index-here w (take (e - a) (drop a s)) (cut (drop e s)) h) at so in omega arith
+    here h = let y = rw (part-cut p, index-here w (take (e - a) (drop a s)) (cut (drop e s)) h) at so in omega arith
 
     pub past : same w (take (e - a) (drop a s)) ≡ false → k + 1 + index w (cut (drop e s)) ≡ index w (cut s)
-    past h = let y = rw (p .words, index-past w (take (e - a) (drop a s)) (cut (drop e s)) h) at so in omega arith
+    past h = let y = rw (part-cut p, index-past w (take (e - a) (drop a s)) (cut (drop e s)) h) at so in omega arith
 
 -- ---- a table whose words are all different: a test that antt computes, and what it says of each place
 abbrev places : List (List ℕ) → ℕ → List (List ℕ) → Bool

@@ -5,13 +5,13 @@ use Rattle.carriage.proofs.overhear.Statement.{statement}
 use Rattle.carriage.proofs.overhear.Tie as tie
 
 returns : tie.Need-returns
-returns c = let a = c .before .args in overheard-small (a .good) (a .r) (a .rest) (c .if1 .taken)
+returns c = let a = c .before .args in overheard-small (a .good) (a .read) (a .rest) (c .if1 .taken)
 
 returns-2 : tie.Need-returns-2
-returns-2 c = let a = c .before .before .args in overheard-read (a .good) (a .r) (a .rest) (c .before .if1 .left) (c .if2 .taken)
+returns-2 c = let a = c .before .before .args in overheard-read (a .good) (a .read) (a .rest) (c .before .if1 .left) (c .if2 .taken)
 
 returns-3 : tie.Need-returns-3
-returns-3 c = let a = c .before .before .args in overheard-bad (a .good) (a .r) (a .rest) (c .before .if1 .left) (c .if2 .left)
+returns-3 c = let a = c .before .before .args in overheard-bad (a .good) (a .read) (a .rest) (c .before .if1 .left) (c .if2 .left)
 
 pub overhear-spec : {M : Type 1} → statement M
 overhear-spec = tie.close (tie.spec returns returns-2 returns-3)

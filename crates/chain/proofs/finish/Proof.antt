@@ -6,7 +6,7 @@ use Rattle.chain.proofs.finish.Statement.{statement}
 use Rattle.chain.proofs.finish.Tie as tie
 
 returns : tie.Need-returns
-returns c = told-silent (c .before .before .before .args .p .place) _ (c .before .read .given .1)
+returns c = told-silent (c .before .before .before .args .p .place) _ _ (c .before .read .given .1)
 
 returns-2 : tie.Need-returns-2
 returns-2 c = told-none (c .before .before .before .before .args .p .place) _ _ _ _ (c .before .before .read2 .given .1) (c .if1 .taken)

@@ -3,7 +3,7 @@
 use mathlib.Core.Path.{_≡_}
 use lib.ListN.{drop}
 use Rattle.laws.specs.Text.{text}
-use Rattle.words.specs.Cutting.{isSpace, noSpace, grow, cut, headWord}
+use Rattle.words.specs.Cutting.{isSpace, noSpace, growAt, wordsFrom, cut, headWord}
 use Rattle.host_writer.specs.Names.{names}
 use Rattle.host_writer.proofs.RowTexts.{name-is}
 use borrow.Author.Needs.{needs}
@@ -12,7 +12,7 @@ use Rattle.host_writer.proofs.names.put_setting.Tie as tie
 
 -- the words of the text are the names
 found : (c : tie.After-nth-word) → c .nth-word .result .now ≡ headWord (drop (c .before .place-of .result) names)
-unfolding text cut isSpace noSpace grow
+unfolding text cut isSpace noSpace growAt wordsFrom
 found c = c .nth-word .ensures
 
 returns : tie.Need-returns

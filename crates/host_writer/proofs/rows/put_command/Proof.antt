@@ -2,7 +2,7 @@
 -- Assumes nothing.
 use mathlib.Core.Path.{refl}
 use Rattle.laws.specs.Text.{text, same}
-use Rattle.words.specs.Cutting.{isSpace, noSpace, grow, cut}
+use Rattle.words.specs.Cutting.{isSpace, noSpace, growAt, wordsFrom, cut}
 use Rattle.words.specs.Find.{meaningOf}
 use Rattle.host_writer.specs.Rows.{lengthen, rows, wordsFor, filledRow}
 use Rattle.host_writer.proofs.RowTexts.{rowWords, command-written}
@@ -11,7 +11,7 @@ use Rattle.host_writer.proofs.rows.put_command.Statement.{statement}
 use Rattle.host_writer.proofs.rows.put_command.Tie as tie
 
 returns : tie.Need-returns
-unfolding text same cut isSpace noSpace grow meaningOf rows lengthen wordsFor filledRow rowWords
+unfolding text same cut isSpace noSpace growAt wordsFrom meaningOf rows lengthen wordsFor filledRow rowWords
 returns c =
     let row = c .before .before in
     let start = row .before .before .before .before .before .before .before in

@@ -6,7 +6,7 @@ use Prim.Native.Nat.{_≤_}
 use native.Mathlib.Omega.{arith}
 use Rattle.laws.specs.Text.{text}
 use Rattle.laws.proofs.Spaced.{trail}
-use Rattle.words.specs.Cutting.{isSpace, noSpace, grow, cut}
+use Rattle.words.specs.Cutting.{isSpace, noSpace, growAt, wordsFrom, cut}
 use Rattle.words.specs.Find.{index}
 use Rattle.host_writer.specs.Rows.{carried}
 use Rattle.host_writer.proofs.RowWalks.{stands, stands-itself}
@@ -17,7 +17,7 @@ use Rattle.host_writer.proofs.rows.put_place.Tie as tie
 -- the words of the text are the names of what is carried
 found : (c : tie.After-find-word) → (let start = c .before .before .before .before .before in
     c .find-word .result ≡ index (start .args .w .now) (map (λ n. n .word) (carried (start .args .f) (cut (start .args .message .now)))))
-unfolding text cut isSpace noSpace grow
+unfolding text cut isSpace noSpace growAt wordsFrom
 found c = c .find-word .ensures
 
 returns : tie.Need-returns

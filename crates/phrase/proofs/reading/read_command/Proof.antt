@@ -10,7 +10,7 @@ use Rattle.phrase.proofs.reading.read_command.Tie as tie
 returns : tie.Need-returns
 returns c =
     let word-at = c .before in
-    answered _ _ (command-none _ (word-at .before .before .args .at) (word-at .word-at .ensures) _ (c .if1 .taken))
+    answered _ (command-none _ (word-at .before .before .args .at) (word-at .word-at .ensures) (c .if1 .taken))
 
 sub-first-of : tie.Need-sub-first-of
 sub-first-of c = word-whole _ _ (c .before .word-at .ensures)
@@ -25,7 +25,7 @@ returns-2 : tie.Need-returns-2
 returns-2 c =
     let if1 = c .before .before in
     let word-at = if1 .before in
-    answered _ _
+    answered _
     (command-first _ (word-at .before .before .args .at) (word-at .word-at .ensures) (if1 .if1 .left) (c .first-of .ensures))
 
 pub read-command-spec : {M : Type 1} → statement M

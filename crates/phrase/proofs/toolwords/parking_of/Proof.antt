@@ -1,9 +1,8 @@
 -- Each word that may follow `tools parking`; any other is 11.
 -- Assumes nothing.
 use mathlib.Core.Path.{refl, sym, _∙_}
-use Rattle.phrase.specs.declared.WordsRead.the-variants.{Refused}
 use Rattle.laws.specs.Text.{text}
-use Rattle.phrase.specs.Reading.{parkings}
+use Rattle.phrase.specs.Reading.{misspelt, parkings}
 use Rattle.phrase.proofs.Among.{parkings-apart, is-name, no-name, _also_}
 use Rattle.laws.proofs.Each.{none}
 use borrow.Author.Needs.{needs}
@@ -13,19 +12,19 @@ use Rattle.phrase.proofs.toolwords.parking_of.Tie as tie
 returns : tie.Need-returns
 unfolding text
 returns c =
-    is-name (Refused 11) (parkings _) parkings-apart _ 0 refl (c .before .before .same-bytes .ensures) (c .before .if1 .taken)
+    is-name misspelt (parkings _) parkings-apart _ 0 refl (c .before .before .same-bytes .ensures) (c .before .if1 .taken)
     (c .ended-at .ensures)
 
 returns-2 : tie.Need-returns-2
 unfolding text
 returns-2 c =
-    is-name (Refused 11) (parkings _) parkings-apart _ 1 refl (c .before .before .same-bytes2 .ensures) (c .before .if2 .taken)
+    is-name misspelt (parkings _) parkings-apart _ 1 refl (c .before .before .same-bytes2 .ensures) (c .before .if2 .taken)
     (c .ended-at2 .ensures)
 
 returns-3 : tie.Need-returns-3
 unfolding text
 returns-3 c =
-    is-name (Refused 11) (parkings _) parkings-apart _ 2 refl (c .before .before .same-bytes3 .ensures) (c .before .if3 .taken)
+    is-name misspelt (parkings _) parkings-apart _ 2 refl (c .before .before .same-bytes3 .ensures) (c .before .if3 .taken)
     (c .ended-at3 .ensures)
 
 returns-4 : tie.Need-returns-4
@@ -33,7 +32,7 @@ unfolding text
 returns-4 c =
     let if2 = c .before .before .before in
     let if1 = if2 .before .before .before in
-    no-name (Refused 11) _ (parkings _)
+    no-name misspelt _ (parkings _)
     ((sym (if1 .before .same-bytes .ensures) ∙ if1 .if1 .left)
     also (sym (if2 .before .same-bytes2 .ensures) ∙ if2 .if2 .left)
     also (sym (c .before .same-bytes3 .ensures) ∙ c .if3 .left)

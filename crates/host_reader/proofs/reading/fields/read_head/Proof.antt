@@ -2,7 +2,7 @@
 -- the rule's.
 -- Assumes nothing.
 use Rattle.laws.specs.Text.{text}
-use Rattle.words.specs.Cutting.{cut, isSpace, noSpace, grow}
+use Rattle.words.specs.Cutting.{cut, isSpace, noSpace, growAt, wordsFrom}
 use Rattle.flags.specs.Flags.{warningNames}
 use Rattle.host_reader.specs.Reading.{verdicts, statuses, warnings}
 use Rattle.host_reader.proofs.Heads.{digit-is, word-is, head-is}
@@ -11,7 +11,7 @@ use Rattle.host_reader.proofs.reading.fields.read_head.Statement.{state
 use Rattle.host_reader.proofs.reading.fields.read_head.Tie as tie
 
 returns : tie.Need-returns
-unfolding verdicts statuses warnings warningNames text cut isSpace noSpace grow
+unfolding verdicts statuses warnings warningNames text cut isSpace noSpace growAt wordsFrom
 returns c =
     let warning = c .before in
     let status = warning .before .before .before in
