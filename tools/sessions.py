@@ -391,6 +391,14 @@ class Maker:
         self.any_report()
         self.line(['tools', 'parking', self.pick('unpark', 'unpark', 'state')], 0)
 
+    def home_in_park(self):
+        """Parked, a home that may be for an axis above the count, and what tells whether that has unparked."""
+        self.line(['estop'], 0)
+        self.line(['tools', 'parking', 'park'], 0)
+        self.line(['home'], self.pick(0, 1, 2, 3, 9))
+        self.line(self.pick(['tools', 'parking', 'state'], ['tools', 'parking', 'park'], ['stop'], self.move()), 0)
+        self.any_report()
+
     def access(self):
         self.line(['set', 'system.access', self.pick('2', '2', '2', '1', '3')], 0)
         for _ in range(self.pick(1, 2, 3)):
@@ -589,7 +597,7 @@ def places_session(seed, index):
 def filled(maker):
     """Scenes that make sense and wild lines, as the dice mix them."""
     sensible = [maker.home, maker.moves, maker.moves, maker.limits, maker.stored, maker.warnings, maker.parking,
-                maker.access, maker.readdress, maker.summing, maker.sweep]
+                maker.home_in_park, maker.access, maker.readdress, maker.summing, maker.sweep]
     wild = [maker.anything] * 12 + [maker.any_report] * 4 + [maker.noise, maker.short]
     share = maker.pick(0, 0.3, 0.7, 1)
     length = maker.pick(1, 40, 200, 600, 1500, 2500, 4000, 4090, 4200)

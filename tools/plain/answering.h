@@ -212,7 +212,7 @@ static int refusal(const struct device *device, const struct command *command)
         return DEVICEONLY;
     if (needs_access(command) && device_setting(device, ACCESS) < 2)
         return NOACCESS;
-    if (device->parked && command->row >= HOME && command->row <= MOVE_MAX)
+    if (device->parked && command->row >= STOP && command->row <= MOVE_MAX)
         return PARKED;
     if (is_busy(device, command))
         return STATUSBUSY;
@@ -280,6 +280,8 @@ static void obey(struct device *device, const struct command *command)
         }
         /* fall through */
     default:
+        if (command->row == HOME)
+            device->parked = 0;
         for (int i = span.from; i < span.to; i++)
             obey_on_axis(&device->axis[i], command);
     }
