@@ -1,4 +1,4 @@
--- A good axis stays good under every command that it permits, and an axis at rest stays so where the device may be parked.
+-- A good axis stays good under every command that it permits, and an axis at rest stays so where the device stays parked.
 -- Assumes nothing.
 use mathlib.Core.Path.{_≡_, refl, ap}
 use mathlib.Core.Bool.{Bool, true, false, cond}
@@ -20,7 +20,7 @@ use Rattle.settings.proofs.GoodStays.{put-good}
 use Rattle.settings.specs.Types.{Position, Number}
 use Rattle.axis.specs.declared.Motion.the-variants.{Idle, Homing}
 use Rattle.axis.specs.declared.Axis.{Axis}
-use Rattle.axis.specs.Commands.{permits, axisAfter}
+use Rattle.axis.specs.Commands.{permits, axisAfter, unparks}
 use Rattle.axis.proofs.MoveDemands.{move-demands}
 
 pub after-good : (c : AxisCommand) (a : Axis) → permits c a ≡ true → goodAxis a ≡ true → goodAxis (axisAfter c a) ≡ true
@@ -38,7 +38,7 @@ after-good (StoreposCurrent n) a h good = store-good a good n (a .settings .pos)
 after-good Warnings a h good = good
 after-good WarningsClear a h good = with-warnings a good _
 
--- the commands that a parked device takes set no axis in motion
+-- the commands that a parked device takes and that leave it parked set no axis in motion
 choose : (b : Bool) (x y : Axis) → moving x ≡ false → moving y ≡ false → moving (cond b x y) ≡ false
 choose true x y h k = h
 choose false x y h k = k
@@ -47,17 +47,18 @@ store-still : (n : Number) (p : Position) (a : Axis) → moving a ≡ false → 
 unfolding store
 store-still n p a r = choose (isPlace n) (withStored (set (a .stored) (place (n .0) - 1) p) a) a r r
 
-pub after-still : (c : AxisCommand) → demands (OfAxes c) .unparked ≡ false → (a : Axis) → moving a ≡ false → moving (axisAfter c a) ≡ false
-after-still Nothing u a r = r
-after-still Home u a r = clash refl u
-after-still Stop u a r = clash refl u
-after-still Estop u a r = clash refl u
-after-still (MoveTo t) u a r = clash (ap (λ q. q .unparked) (move-demands t)) u
-after-still (MoveVel v) u a r = clash refl u
-after-still (Get s) u a r = r
-after-still (Set s n) u a r = r
-after-still (Storepos n) u a r = r
-after-still (StoreposAt n p) u a r = store-still n p a r
-after-still (StoreposCurrent n) u a r = store-still n (a .settings .pos) a r
-after-still Warnings u a r = r
-after-still WarningsClear u a r = r
+pub after-still : (c : AxisCommand) → unparks c ≡ false → demands (OfAxes c) .unparked ≡ false
+    → (a : Axis) → moving a ≡ false → moving (axisAfter c a) ≡ false
+after-still Nothing h u a r = r
+after-still Home h u a r = clash refl h
+after-still Stop h u a r = clash refl u
+after-still Estop h u a r = clash refl u
+after-still (MoveTo t) h u a r = clash (ap (λ q. q .unparked) (move-demands t)) u
+after-still (MoveVel v) h u a r = clash refl u
+after-still (Get s) h u a r = r
+after-still (Set s n) h u a r = r
+after-still (Storepos n) h u a r = r
+after-still (StoreposAt n p) h u a r = store-still n p a r
+after-still (StoreposCurrent n) h u a r = store-still n (a .settings .pos) a r
+after-still Warnings h u a r = r
+after-still WarningsClear h u a r = r

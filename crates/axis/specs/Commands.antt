@@ -1,6 +1,6 @@
--- What each command of the scope "axis" asks of an axis that it concerns, and what it makes of such an axis.
+-- What each command of the scope "axis" asks of an axis that it concerns, what it makes of such an axis, and whether it unparks.
 -- One line a command. What is constant of it, as its access, is in the crate `command`.
-use mathlib.Core.Bool.{Bool, true}
+use mathlib.Core.Bool.{Bool, true, false}
 use Rattle.command.specs.declared.AxisCommand.{AxisCommand}
 use Rattle.command.specs.declared.AxisCommand.the-variants.{Nothing, Home, Stop, Estop, MoveTo, MoveVel, Get, Set, Storepos, StoreposAt, StoreposCurrent, Warnings, WarningsClear}
 use Rattle.settings.specs.Settings.{allows, put}
@@ -41,3 +41,19 @@ axisAfter (StoreposAt n p) a = store n p a
 axisAfter (StoreposCurrent n) a = store n (a .settings .pos) a
 axisAfter Warnings a = a
 axisAfter WarningsClear a = cleared a
+
+-- the device itself. 02, order 4: "home, of any accepted scope, is accepted there and unparks"
+abbrev pub unparks : AxisCommand → Bool
+unparks Nothing = false
+unparks Home = true
+unparks Stop = false
+unparks Estop = false
+unparks (MoveTo t) = false
+unparks (MoveVel v) = false
+unparks (Get s) = false
+unparks (Set s n) = false
+unparks (Storepos n) = false
+unparks (StoreposAt n p) = false
+unparks (StoreposCurrent n) = false
+unparks Warnings = false
+unparks WarningsClear = false

@@ -1,7 +1,7 @@
-// What a command asks of one axis, and what it makes of that axis.
-// One line a command of the scope "axis", as in document 01's table of commands.
+// What a command of the scope "axis" asks of one axis, what it makes of that axis, and whether it unparks the device.
+// The first two have one line a command, as in document 01's table of commands.
 ghost use mathlib.Core.Path.{_≡_};
-ghost use Rattle.axis.specs.Commands.{permits, axisAfter};
+ghost use Rattle.axis.specs.Commands.{permits, axisAfter, unparks as unparksBy};
 use crate::Axis;
 use crate::Motion;
 use crate::travel::is_place;
@@ -46,5 +46,15 @@ pub fn after(a: Axis, c: AxisCommand) -> Axis
         AxisCommand::StoreposCurrent(n) => a.store(n, a.settings.pos),
         AxisCommand::Warnings => a,
         AxisCommand::WarningsClear => a.cleared(),
+    }
+}
+
+// Does it unpark the device? Home alone does.
+pub fn unparks(c: AxisCommand) -> bool
+    ensures { λ r. ⌜ r ≡ unparksBy c ⌝ }
+{
+    match c {
+        AxisCommand::Home => true,
+        _ => false,
     }
 }

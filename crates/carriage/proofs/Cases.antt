@@ -7,7 +7,7 @@ use Prim.Native.String.{String}
 use lib.IntN.{pos}
 use lib.ListN.{take, replicate}
 use Rattle.laws.specs.Text.{text}
-use Rattle.laws.specs.Refusals.{ACCEPTED, NOTLINE, BADSUM, BADADDRESS, NOTMINE, BADCOMMAND, BADDATA, BADAXIS, DEVICEONLY, NOACCESS, STATUSBUSY}
+use Rattle.laws.specs.Refusals.{ACCEPTED, NOTLINE, BADSUM, BADADDRESS, NOTMINE, BADCOMMAND, BADDATA, BADAXIS, DEVICEONLY, NOACCESS, PARKED, STATUSBUSY}
 use Rattle.units.specs.Units.{number}
 use Rattle.axis.specs.RaisedWarnings.{raise, raised}
 use Rattle.axis.specs.Reports.{reportOf}
@@ -31,12 +31,19 @@ sent l = line (text l) (replicate 96 0)
 abbrev told : ℕ → ℕ → ℕ → Event
 told axis kind last = motor (number (pos axis)) (number (pos kind)) (number (pos last))
 
--- "Homed": both axes have reached home, at 0; and then axis 2 has gone to 10000
+infixl 20 _then_
+abbrev _then_ : List Event → String → List Event
+b then l = b ++ sent l ∷ []
+
+-- "Homed": both axes have reached home, at 0; and then axis 2 has gone to 10000, or the device was parked
 abbrev homed : List Event
 homed = sent "/home\n" ∷ told 1 3 0 ∷ told 2 3 0 ∷ []
 
 abbrev gone : List Event
 gone = homed ++ sent "/1 2 move abs 10000\n" ∷ told 2 2 10000 ∷ []
+
+abbrev inPark : List Event
+inPark = homed then "/tools parking park\n"
 
 pub record Case : Type 0 where
   pub before : List Event
@@ -68,16 +75,25 @@ cases =
     ∷ case [] "/1 get maxspeed\n" ACCEPTED "@01 0 OK IDLE WR 153600 153600:F0\r\n"
     ∷ case [] "/tools echo a  b\n" ACCEPTED "@01 0 OK IDLE WR a b:8B\r\n"
     ∷ case [] "/set comm.checksum 0\n" ACCEPTED "@01 0 OK IDLE WR 0\r\n"
-    ∷ case (sent "/set comm.checksum 0\n" ∷ []) "/set comm.checksum 1\n" ACCEPTED "@01 0 OK IDLE WR 0:3E\r\n"
+    ∷ case ([] then "/set comm.checksum 0\n") "/set comm.checksum 1\n" ACCEPTED "@01 0 OK IDLE WR 0:3E\r\n"
     ∷ case [] "/1 2 moves\n" BADCOMMAND "@01 2 RJ IDLE WR BADCOMMAND:A4\r\n"
     ∷ case homed "/1 2 move abs 305382\n" BADDATA "@01 2 RJ IDLE -- BADDATA:D8\r\n"
     ∷ case gone "/get pos\n" ACCEPTED "@01 0 OK IDLE -- 0 10000:7C\r\n"
     ∷ case gone "/1 2 get pos\n" ACCEPTED "@01 2 OK IDLE -- 10000:CA\r\n"
-    ∷ case (gone ++ sent "/1 1 home\n" ∷ []) "/1 2\n" ACCEPTED "@01 2 OK IDLE -- 0:8B\r\n"
-    ∷ case (gone ++ sent "/1 1 home\n" ∷ []) "/1\n" ACCEPTED "@01 0 OK BUSY -- 0:68\r\n"
-    ∷ case (gone ++ sent "/1 1 home\n" ∷ []) "/1 1 set pos 5\n" STATUSBUSY "@01 1 RJ BUSY -- STATUSBUSY:6E\r\n"
+    ∷ case (gone then "/1 1 home\n") "/1 2\n" ACCEPTED "@01 2 OK IDLE -- 0:8B\r\n"
+    ∷ case (gone then "/1 1 home\n") "/1\n" ACCEPTED "@01 0 OK BUSY -- 0:68\r\n"
+    ∷ case (gone then "/1 1 home\n") "/1 1 set pos 5\n" STATUSBUSY "@01 1 RJ BUSY -- STATUSBUSY:6E\r\n"
     ∷ case (told 2 4 3 ∷ []) "/1 1 warnings\n" ACCEPTED "@01 1 OK IDLE WR 01 WR:43\r\n"
     ∷ case (told 2 4 3 ∷ []) "/warnings\n" ACCEPTED "@01 0 OK IDLE FS 02 FS WR:9A\r\n"
+    -- on a parked device: home unparks (02, order 4), for one axis as for all, and one that is refused does not
+    ∷ case inPark "/stop\n" PARKED "@01 0 RJ IDLE -- PARKED:04\r\n"
+    ∷ case inPark "/move abs 5\n" PARKED "@01 0 RJ IDLE -- PARKED:04\r\n"
+    ∷ case inPark "/home\n" ACCEPTED "@01 0 OK BUSY -- 0:68\r\n"
+    ∷ case inPark "/1 2 home\n" ACCEPTED "@01 2 OK BUSY -- 0:66\r\n"
+    ∷ case (inPark then "/1 2 home\n") "/tools parking state\n" ACCEPTED "@01 0 OK BUSY -- 0:68\r\n"
+    ∷ case (inPark then "/1 2 home\n") "/1 1 move abs 5\n" ACCEPTED "@01 1 OK BUSY -- 0:67\r\n"
+    ∷ case (inPark then "/1 7 home\n") "/tools parking state\n" ACCEPTED "@01 0 OK IDLE -- 1:8C\r\n"
+    ∷ case (inPark then "/2 home\n") "/estop\n" PARKED "@01 0 RJ IDLE -- PARKED:04\r\n"
     ∷ []
 
 -- the number, and the bytes of the reply

@@ -13,5 +13,6 @@ pub mod SpelledIsObeyed
 pub mod UnspelledIsRefused
 pub mod OutsideNeverMoves
 pub mod MoveGoesWhereAsked
+pub mod HomeUnparks
 pub mod BeyondCount
 pub mod Cases

@@ -1,6 +1,6 @@
 -- From the bytes of a line to the carriage: an accepted move sends each axis concerned to the number asked for; and whatever is
 -- answered, all of them go or none does. Over every record and buffer. Assumes nothing.
-use mathlib.Core.Path.{_≡_, refl, sym, ap, _∙_}
+use mathlib.Core.Path.{_≡_, refl, ap, _∙_}
 use mathlib.Core.List.{List, [], _∷_, map}
 use mathlib.Core.Logic.{_⊎_, inl}
 use Prim.Native.Nat.{ℕ, zero, suc, _-_}
@@ -22,7 +22,7 @@ use Rattle.rules.specs.Effects.{obey}
 use Rattle.rules.proofs.TargetExact.{sent, target-exact}
 use Rattle.rules.proofs.TargetExact as Rules
 use Rattle.carriage.specs.Step.{silent, obeyed, step}
-use Rattle.carriage.proofs.SpelledIsObeyed.{spelled-answer, obeyed-number, obeyed-next}
+use Rattle.carriage.proofs.SpelledIsObeyed.{spelled-answer, obeyed-next, accepted-line}
 
 -- the axes that were changed, read back
 module _ {X Y : Type 0} (f : X → Y) (g : X → X) where
@@ -47,29 +47,23 @@ motions d k = map (λ (x : Axis). x .motion) (axesOf d k)
 abbrev pub targets : Target → Device → ℕ → List Motion
 targets t d k = map (λ x. To (position (target t x))) (axesOf d k)
 
-sent-motions : (t : Target) (k : ℕ) (d : Device) → motions (onAxes (sent t) k d) k ≡ targets t d k
+pub motions-after : (g : Axis → Axis) (k : ℕ) (d : Device) → motions (onAxes g k d) k ≡ map (λ x. g x .motion) (axesOf d k)
 unfolding axesOf onAxes many
-sent-motions t k d = change-read (λ (x : Axis). x .motion) (sent t) (k - 1) (many d k) (d .axes)
+motions-after g k d = change-read (λ (x : Axis). x .motion) g (k - 1) (many d k) (d .axes)
 
 -- a line that is written for a move: `move abs`, `rel`, `min`, `max` or `stored`
 module _ {l : List ℕ} {a : Asked} (t : Target) (d : Device) (b : List ℕ) (w : Line l a) (c : a .command ≡ OfAxes (MoveTo t)) where
   obeyed-as : obeyed d (a .axis) (a .echo) (a .command) b .answer .next ≡ obey d (a .axis) (OfAxes (MoveTo t)) .next
   obeyed-as = obeyed-next d (a .axis) (a .echo) (a .command) b ∙ ap (λ (x : Command). obey d (a .axis) x .next) c
 
-  numbered-as : obeyed d (a .axis) (a .echo) (a .command) b .answer .number ≡ obey d (a .axis) (OfAxes (MoveTo t)) .number
-  numbered-as = obeyed-number d (a .axis) (a .echo) (a .command) b ∙ ap (λ (x : Command). obey d (a .axis) x .number) c
-
   -- Accepted: each axis concerned is sent to the target asked for, and nothing else has changed.
   pub move-does-nothing-else : step d l b .answer .number ≡ 0 → step d l b .answer .next ≡ onAxes (sent t) (a .axis) d
-  unfolding silent
-  move-does-nothing-else =
-      spelled-answer (λ s. s .answer .number ≡ 0 → s .answer .next ≡ onAxes (sent t) (a .axis) d) d b w (λ n h e. absurd (h e))
-      (λ e. obeyed-as ∙ target-exact d (a .axis) t (sym numbered-as ∙ e))
+  move-does-nothing-else e = let m = accepted-line d b w c e in m .1 ∙ target-exact d (a .axis) t (m .0)
 
   -- Axis by axis: in motion to just the number asked for.
   pub move-goes-where-asked : step d l b .answer .number ≡ 0 → motions (step d l b .answer .next) (a .axis) ≡ targets t d (a .axis)
   move-goes-where-asked e =
-      ap (λ (n : Device). motions n (a .axis)) (move-does-nothing-else e) ∙ sent-motions t (a .axis) d
+      ap (λ (n : Device). motions n (a .axis)) (move-does-nothing-else e) ∙ motions-after (sent t) (a .axis) d
 
   -- All axes concerned go, or the record stays as it was: whatever is answered.
   pub all-or-none : (step d l b .answer .next ≡ d) ⊎ (step d l b .answer .next ≡ onAxes (sent t) (a .axis) d)

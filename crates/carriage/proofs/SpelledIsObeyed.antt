@@ -95,3 +95,13 @@ module _ (d : Device) (k : ℕ) (es : List (List ℕ)) (c : Command) (b : List �
   pub obeyed-refused : (obey d k c .number ≡ 0 → ⊥) → obeyed d k es c b ≡ rejected (obey d k c .number) d k b
   unfolding obeyed obey
   obeyed-refused h = rw (ne-eqb (refusal d k c) 0 h) refl
+
+-- A line that is accepted has brought about what the rules say of its command: over every record and buffer.
+pub accepted-line : {l : List ℕ} {a : Asked} {c : Command} (d : Device) (b : List ℕ) → Line l a → a .command ≡ c
+    → step d l b .answer .number ≡ 0
+    → (obey d (a .axis) c .number ≡ 0) × (step d l b .answer .next ≡ obey d (a .axis) c .next)
+unfolding silent
+accepted-line {l} {a} {c} d b w x =
+    spelled-answer (λ s. s .answer .number ≡ 0 → (obey d (a .axis) c .number ≡ 0) × (s .answer .next ≡ obey d (a .axis) c .next))
+    d b w (λ n h e. absurd (h e))
+    (rw (← x) (λ e. (sym (obeyed-number d (a .axis) (a .echo) (a .command) b) ∙ e, obeyed-next d (a .axis) (a .echo) (a .command) b)))

@@ -4,6 +4,7 @@ ghost use mathlib.Core.Path.{_≡_};
 ghost use Rattle.axis.specs.Commands.{axisAfter};
 ghost use Rattle.device.specs.Record.{put as putOf, withParked, onAxes};
 ghost use Rattle.rules.specs.Effects.{deviceAfter, next as nextOf};
+use axis::commands::unparks;
 use command::AxisCommand;
 use command::Command;
 use command::DeviceCommand;
@@ -69,12 +70,13 @@ fn obeyed(mut d: Device, k: u64, c: AxisCommand) -> Device
     d
 }
 
-// The record after a command for axis k, 0 for all axes, that meets no refusal.
+// The record after a command for axis k, 0 for all axes, that meets no refusal. Parked is set here: in `obeyed`
+// it would take 170 instructions more.
 pub fn next(d: Device, k: u64, c: Command) -> Device
     ensures { λ r. ⌜ r ≡ nextOf d k c ⌝ }
 {
     match c {
-        Command::OfAxes(a) => obeyed(d, k, a),
+        Command::OfAxes(a) => obeyed(with_parked(d, !unparks(a) & d.parked), k, a),
         Command::OfDevice(a) => after(d, a),
     }
 }

@@ -98,11 +98,11 @@ abbrev pub none : Row
 none = row [] [] Apart anytime evenMoving shows Nought (axes Axis.Nothing)
 
 -- the words of the row, in two groups: 10 is for the first, 11 for the second; its setting is read, written, or there is none;
--- "On a parked device home, move, stop and estop are rejected"; STATUSBUSY: "park with an axis moving"; whether it only shows;
--- the data of its reply; the command that it makes
+-- "On a parked device home, move, stop and estop are rejected", and 02, order 4: "PARKED no longer given for home"; STATUSBUSY:
+-- "park with an axis moving"; whether it only shows; the data of its reply; the command that it makes
 abbrev pub table : List Row
 table =
-    row (w "home" ∷ []) [] Apart unparked evenMoving changes Nought (axes Axis.Home)
+    row (w "home" ∷ []) [] Apart anytime evenMoving changes Nought (axes Axis.Home)
     ∷ row (w "stop" ∷ []) [] Apart unparked evenMoving changes Nought (axes Axis.Stop)
     ∷ row (w "estop" ∷ []) [] Apart unparked evenMoving changes Nought (axes Axis.Estop)
     ∷ row (w "move" ∷ w "abs" ∷ []) (N ∷ []) Apart unparked evenMoving changes Nought (numbered (λ n. Axis.MoveTo (Abs (position (n .0)))))

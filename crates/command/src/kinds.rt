@@ -94,7 +94,7 @@ const KINDS: [u8; 21] = [
     // (none)
     SHOWS,
     // home
-    UNPARKED,
+    PLAIN,
     // stop
     UNPARKED,
     // estop

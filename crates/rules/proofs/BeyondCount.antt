@@ -59,7 +59,7 @@ after-keeps Unpark d = (refl, refl)
 after-keeps Echo d = (refl, refl)
 
 beyond-next : (d : Device) (k : ℕ) (c : Command) (i : ℕ) → badAxis d k ≡ false → d .count ≤ i → at (next d k c) i ≡ at d i
-unfolding next badAxis
+unfolding next badAxis onAxes many
 beyond-next d k (OfAxes c) i b l = beyond-axes (axisAfter c) d k i (ltb-false (d .count) k b) l
 beyond-next d k (OfDevice c) i b l = ap (λ (x : List Axis). getD x i freshAxis) (after-keeps c d .0)
 
@@ -83,7 +83,7 @@ report-beyond d axis r i l =
 
 -- and there are as many places after it as before
 length-next : (d : Device) (k : ℕ) (c : Command) → length (next d k c .axes) ≡ length (d .axes)
-unfolding next onAxes
+unfolding next onAxes many
 length-next d k (OfAxes c) = length-change (axisAfter c) (k - 1) (many d k) (d .axes)
 length-next d k (OfDevice c) = ap length (after-keeps c d .0)
 

@@ -86,6 +86,11 @@ cases =
     ∷ (homing on 1 asks OfAxes (AxisCommand.Set Pos (number (pos 5))) gives 0)
     ∷ (homing on 0 asks OfDevice DeviceCommand.Park gives 16)
     ∷ (inPark on 0 asks OfAxes AxisCommand.Stop gives 15)
+    ∷ (inPark on 0 asks OfAxes AxisCommand.Home gives 0)
+    ∷ (inPark on 2 asks OfAxes AxisCommand.Home gives 0)
+    ∷ (inPark on 7 asks OfAxes AxisCommand.Home gives 12)
+    ∷ (obey inPark 2 (OfAxes AxisCommand.Home) .next on 0 asks OfAxes AxisCommand.Stop gives 0)
+    ∷ (obey inPark 7 (OfAxes AxisCommand.Home) .next on 0 asks OfAxes AxisCommand.Stop gives 15)
     ∷ (inPark on 0 asks OfAxes (AxisCommand.Set MaxSpeed (number (pos 5))) gives 0)
     ∷ (inPark on 0 asks OfDevice DeviceCommand.Unpark gives 0)
     ∷ []

@@ -28,7 +28,7 @@ use Rattle.axis.specs.Record.{moving}
 use Rattle.axis.specs.Good.{goodAxis}
 use Rattle.axis.specs.Reports.{takes, reported}
 use Rattle.axis.proofs.GoodUnderReports.{reported-good, reported-still}
-use Rattle.axis.specs.Commands.{permits, axisAfter}
+use Rattle.axis.specs.Commands.{permits, axisAfter, unparks}
 use Rattle.axis.proofs.GoodUnderCommands.{after-good, after-still}
 use Rattle.device.specs.declared.Device.{Device}
 use Rattle.device.specs.Record.{many, axesOf, onAxes, put, withParked}
@@ -177,13 +177,17 @@ unfolding deviceOnly
 whole-device k c h = eqb-true k 0 (not-false (eqb k 0) h)
 
 module _ (d : Device) (k : ℕ) (h : Good d) where
-  -- the axes after a command: on a parked device, none is set in motion
-  axes-after : (c : AxisCommand) → refusal d k (OfAxes c) ≡ 0 → (u : Bool) → demands (OfAxes c) .unparked ≡ u
-      → Good (onAxes (axisAfter c) k d)
-  unfolding parked
-  axes-after c e true u = moved-good d k (axisAfter c) (permits c) (each-permits d k c e) (after-good c) h
-      (and-true-false (d .parked) (demands (OfAxes c) .unparked) u (not-parked d k (OfAxes c) e))
-  axes-after c e false u = still-good d k (axisAfter c) (permits c) (each-permits d k c e) (after-good c) h (after-still c u)
+  -- the axes after a command: none is set in motion on a device that is parked and stays so
+  axes-after : (c : AxisCommand) → refusal d k (OfAxes c) ≡ 0 → (v u : Bool) → unparks c ≡ v → demands (OfAxes c) .unparked ≡ u
+      → Good (onAxes (axisAfter c) k (withParked (not v && d .parked) d))
+  unfolding parked axesOf many
+  axes-after c e true u w z =
+      moved-good (withParked false d) k (axisAfter c) (permits c) (each-permits d k c e) (after-good c) (with-parked false d h refl) refl
+  axes-after c e false true w z =
+      moved-good d k (axisAfter c) (permits c) (each-permits d k c e) (after-good c) h
+      (and-true-false (d .parked) (demands (OfAxes c) .unparked) z (not-parked d k (OfAxes c) e))
+  axes-after c e false false w z =
+      still-good d k (axisAfter c) (permits c) (each-permits d k c e) (after-good c) h (after-still c w z)
 
   -- park meets no axis in motion
   none-moving : refusal d k (OfDevice Park) ≡ 0 → any moving (axesOf d 0) ≡ false
@@ -200,7 +204,7 @@ module _ (d : Device) (k : ℕ) (h : Good d) where
 
   next-good : (c : Command) → refusal d k c ≡ 0 → Good (next d k c)
   unfolding next
-  next-good (OfAxes c) e = axes-after c e (demands (OfAxes c) .unparked) refl
+  next-good (OfAxes c) e = axes-after c e (unparks c) (demands (OfAxes c) .unparked) refl refl
   next-good (OfDevice c) e = device-after c e
 
 -- "a good record": under every command

@@ -3,6 +3,7 @@ pub mod Accepted
 pub mod RefusalKeeps
 pub mod TargetExact
 pub mod OutsideRefused
+pub mod HomeUnparks
 pub mod BeyondCount
 pub mod GoodStays
 pub mod Cases

@@ -12,6 +12,7 @@ use Rattle.command.specs.declared.Command.{Command}
 use Rattle.command.specs.declared.Command.the-variants.{OfAxes, OfDevice}
 use Rattle.command.specs.Commands.{demands}
 use Rattle.axis.specs.declared.Axis.{Axis}
+use Rattle.axis.specs.Record.{freshAxis}
 use Rattle.axis.specs.Commands.{permits, axisAfter}
 use Rattle.axis.proofs.OnlyShows.{only-shows}
 use Rattle.device.specs.declared.Device.{Device}
@@ -35,5 +36,6 @@ shows-permitted d k (OfDevice c) h = ap not (device-shows c h d .0)
 pub shows-same : (d : Device) (k : ℕ) (c : Command) → demands c .shows ≡ true → next d k c ≡ d
 unfolding next onAxes
 shows-same d k (OfAxes c) h =
-    ap (λ (l : List Axis). withAxes l d) (change-same (axisAfter c) (λ a. only-shows c h a .1) (k - 1) (many d k) (d .axes))
+    rw (only-shows c h freshAxis .2)
+    (ap (λ (l : List Axis). withAxes l d) (change-same (axisAfter c) (λ a. only-shows c h a .1) (k - 1) (many d k) (d .axes)))
 shows-same d k (OfDevice c) h = device-shows c h d .1

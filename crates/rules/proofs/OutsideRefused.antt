@@ -70,7 +70,7 @@ some-access : (z : ℤ) → leZ (pos 1) z ≡ true → ltb (place z) 1 ≡ false
 some-access (pos n) h = le-ltb n 1 (leb-true 1 n h)
 some-access (negsuc n) h = absurd (is-true h)
 
-enough-access : (d : Device) → good d ≡ true → ltb (place (d .access .0)) 1 ≡ false
+pub enough-access : (d : Device) → good d ≡ true → ltb (place (d .access .0)) 1 ≡ false
 unfolding good deviceSettings
 enough-access d g =
     some-access (d .access .0)

@@ -1,13 +1,13 @@
 -- What each command does: the next record, and with the refusal the outcome.
 -- "10 to 16 ... change no record. Accepted is 0."
-use mathlib.Core.Bool.{true, false, cond}
+use mathlib.Core.Bool.{true, false, cond, not, _&&_}
 use Prim.Native.Nat.{ℕ}
 use lib.Dec.{eqb}
 use Rattle.command.specs.declared.DeviceCommand.{DeviceCommand}
 use Rattle.command.specs.declared.DeviceCommand.the-variants.{Get, Set, ParkingState, Park, Unpark, Echo}
 use Rattle.command.specs.declared.Command.{Command}
 use Rattle.command.specs.declared.Command.the-variants.{OfAxes, OfDevice}
-use Rattle.axis.specs.Commands.{axisAfter}
+use Rattle.axis.specs.Commands.{axisAfter, unparks}
 use Rattle.device.specs.declared.Device.{Device}
 use Rattle.device.specs.declared.Outcome.{Outcome}
 use Rattle.device.specs.Record.{put, withParked, onAxes}
@@ -22,9 +22,10 @@ deviceAfter Park d = withParked true d
 deviceAfter Unpark d = withParked false d
 deviceAfter Echo d = d
 
--- the next record: each axis that the number k means is changed, or the device
+-- the next record: each axis that the number k means is changed, and a parked device stays so unless the command unparks; or the
+-- device is changed
 unfoldable pub next : Device → ℕ → Command → Device
-next d k (OfAxes c) = onAxes (axisAfter c) k d
+next d k (OfAxes c) = onAxes (axisAfter c) k (withParked (not (unparks c) && d .parked) d)
 next d k (OfDevice c) = deviceAfter c d
 
 unfoldable pub obey : Device → ℕ → Command → Outcome

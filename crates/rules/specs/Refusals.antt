@@ -33,7 +33,7 @@ deviceOnly k (OfDevice c) = not (eqb k 0)
 unfoldable pub noAccess : Device → Demands → Bool
 noAccess d x = ltb (place (d .access .0)) (x .access)
 
--- "On a parked device home, move, stop and estop are rejected."
+-- "On a parked device home, move, stop and estop are rejected." 02, order 4: "PARKED no longer given for home."
 unfoldable pub parked : Device → Demands → Bool
 parked d x = d .parked && x .unparked
 

@@ -52,7 +52,7 @@ fn no_access(d: Device, x: Demands) -> bool
     a < x.access as usize
 }
 
-// 15 PARKED: home, move, stop and estop on a parked device.
+// 15 PARKED: move, stop and estop on a parked device.
 fn parked_for(d: Device, x: Demands) -> bool
     ensures { λ r. ⌜ r ≡ parkedFor d x ⌝ }
 {
