@@ -1,4 +1,4 @@
-# Whole inputs of bench, of cable and of console made from a seed: lines by document 01's grammar in all its freedoms,
+# Whole inputs of bench, of cable and of console made from a seed: lines by the papers' grammar in all its freedoms,
 # lines that just miss it, motor reports good and bad, and longer sessions that make sense. session(seed, index), for
 # bench, is always the same bytes, and so are cable_session(seed, index), for cable, and places_session(seed, index),
 # for console: numbers and addresses that just miss, for the places that it points at.
@@ -37,8 +37,17 @@ BESIDE = '001789+-xXaAfFgG/:;@`.,_ '
 WORDS = [
     'home', 'stop', 'estop', 'move', 'abs', 'rel', 'vel', 'min', 'max', 'stored', 'get', 'set', 'tools', 'storepos',
     'current', 'warnings', 'clear', 'parking', 'state', 'park', 'unpark', 'echo', 'WR', 'FD', '0', '1', '-1', '0x10',
-    'help', 'driver', 'pos.', 'limit', 'limit.mid', 'driver.current', 'system', 'comm.', 'now', 'R', '@01', '~', '!'
+    'help', 'commands', 'driver', 'pos.', 'limit', 'limit.mid', 'driver.current', 'system', 'comm.', 'now', 'R', '@01',
+    '~', '!'
 ] + list(SETTINGS)
+
+# What is nearly `help commands`.
+NEAR_HELP = [
+    ['help'], ['help', 'x'], ['help', 'commands', 'x'], ['helpcommands'], ['Help', 'commands'], ['help', 'Commands'],
+    ['HELP', 'COMMANDS'], ['help', 'command'], ['help', 'commandss'], ['help', 'commands.'], ['hel', 'commands'],
+    ['helps', 'commands'], ['commands'], ['commands', 'help'], ['help', 'help'], ['help', 'help', 'commands'],
+    ['help', 'commands', 'commands'], ['help', 'commands', '0'], ['help', '0'], ['help', '12x'], ['help', 'home'],
+    ['help', 'warnings'], ['tools', 'help', 'commands'], ['get', 'help'], ['?']]
 
 
 # A line that sets the address, in a spelling that is not odd: its own address word, if any, and the new address.
@@ -145,13 +154,16 @@ class Maker:
         words = [self.dice.choice(WORDS) if self.chance(0.1) else self.dice.choice(letters) for _ in range(count)]
         return ['tools', 'echo'] + words
 
+    def help(self):
+        return self.dice.choice(NEAR_HELP) if self.chance(0.3) else ['help', 'commands']
+
     def command(self):
         """The words of one row of the command table, or of a near miss."""
         words = self.pick(
             lambda: [], lambda: ['home'], lambda: ['stop'], lambda: ['estop'], self.move, self.move, self.move,
             lambda: ['get', self.setting()], lambda: ['get', self.setting()], self.set_command, self.set_command,
             self.set_command, self.storepos, self.storepos, lambda: ['warnings'], lambda: ['warnings', 'clear'],
-            lambda: ['tools', 'parking', self.pick('state', 'park', 'unpark', 'unpark')], self.echo)()
+            lambda: ['tools', 'parking', self.pick('state', 'park', 'unpark', 'unpark')], self.echo, self.help)()
         return self.miswording(words) if self.chance(self.oddness / 3) else words
 
     def miswording(self, words):
@@ -205,7 +217,7 @@ class Maker:
     def content(self, words, axis=None):
         """Address, axis and words with their spaces; an axis of None is left to chance."""
         if axis is None:
-            ofdevice = 'parking' in words or 'echo' in words or any(word in DEVICE_SETTINGS for word in words)
+            ofdevice = any(word in ('parking', 'echo', 'help') or word in DEVICE_SETTINGS for word in words)
             axis = 0 if ofdevice and self.chance(0.8) else self.pick(*self.ANY_AXIS)
         head = []
         if axis or self.addressed(words):
@@ -399,6 +411,37 @@ class Maker:
         self.line(self.pick(['tools', 'parking', 'state'], ['tools', 'parking', 'park'], ['stop'], self.move()), 0)
         self.any_report()
 
+    def helping(self):
+        """What the device can do, asked for with all freedoms; the sums of the info lines go with the replies'."""
+        if self.chance(0.4):
+            self.line(['set', 'comm.checksum', self.pick('0', '1')], 0)
+        for _ in range(self.pick(1, 1, 2, 3)):
+            self.line(self.help())
+        self.line(self.pick([], ['warnings'], ['get', 'comm.checksum']))
+
+    def alerts(self):
+        """Alerts on, now and then off, with sums or without; then axes are set off, and reports of them come."""
+        self.line(['set', 'comm.alert', self.pick('1', '1', '1', '1', '0')], 0)
+        if self.chance(0.4):
+            self.line(['set', 'comm.checksum', self.pick('0', '0', '1')], 0)
+        for _ in range(self.pick(1, 2, 3)):
+            axis = self.scope()
+            speed = ['move', 'vel', self.spelled(self.dice.randint(-153600, 153600))]
+            words = self.pick(['home'], ['home'], speed, self.move())
+            self.line(words, axis)
+            for source in self.sources(axis):
+                self.arrival(source, 3 if words == ['home'] else 2)
+        self.line(self.pick([], ['warnings'], ['get', 'pos'], ['get', 'comm.alert']), 0)
+
+    def arrival(self, source, kind):
+        """Reports of an axis on its way, and mostly the one that ends its motion; now and then that comes again."""
+        for _ in range(self.pick(0, 0, 1, 2)):
+            other = self.pick(1, 1, 4, 4, 5)
+            self.report_from(source, other, self.dice.randint(1, 7) if other == 4 else self.place())
+        kind = self.pick(kind, kind, kind, kind, kind, 2, 3, 1)
+        for _ in range(self.pick(1, 1, 1, 1, 2)):
+            self.report_from(source, kind, self.place())
+
     def access(self):
         self.line(['set', 'system.access', self.pick('2', '2', '2', '1', '3')], 0)
         for _ in range(self.pick(1, 2, 3)):
@@ -570,6 +613,12 @@ class PlacesMaker(Maker):
         if 'comm.address' in words:
             self.be_sure()
 
+    def alerts(self):
+        """Few numbers miss here, since none of a report has a place, and with many that do no alert would come."""
+        misses, self.misses = self.misses, 0.05
+        super().alerts()
+        self.misses = misses
+
 
 def session(seed, index):
     """The whole input of one run of bench."""
@@ -585,7 +634,7 @@ def places_session(seed, index):
     """The whole input of one run of console; it reads on behind 4,096 bytes, so there are no more."""
     maker = PlacesMaker(seed, index)
     scenes = [maker.anything] * 60 + [maker.any_report, maker.any_report, maker.readdress, maker.summing, maker.stored,
-                                      maker.home, maker.noise, maker.short]
+                                      maker.home, maker.noise, maker.short, maker.helping, maker.alerts]
     length = maker.pick(1, 40, 200, 600, 1500, 2500, 4000, 4090)
     while len(maker.bytes) < length:
         if maker.chance(0.05):
@@ -597,7 +646,8 @@ def places_session(seed, index):
 def filled(maker):
     """Scenes that make sense and wild lines, as the dice mix them."""
     sensible = [maker.home, maker.moves, maker.moves, maker.limits, maker.stored, maker.warnings, maker.parking,
-                maker.home_in_park, maker.access, maker.readdress, maker.summing, maker.sweep]
+                maker.home_in_park, maker.access, maker.readdress, maker.summing, maker.sweep, maker.helping,
+                maker.alerts, maker.alerts, maker.alerts]
     wild = [maker.anything] * 12 + [maker.any_report] * 4 + [maker.noise, maker.short]
     share = maker.pick(0, 0.3, 0.7, 1)
     length = maker.pick(1, 40, 200, 600, 1500, 2500, 4000, 4090, 4200)
@@ -605,6 +655,8 @@ def filled(maker):
         maker.home()
     if maker.chance(0.3):
         maker.bytes += b'/set system.access 2\n'
+    if maker.chance(0.5):
+        maker.bytes += b'/set comm.alert 1\n'
     while len(maker.bytes) < length:
         if maker.chance(0.05):
             maker.be_sure()

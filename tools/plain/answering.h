@@ -1,5 +1,5 @@
-/* Answering what was read: the checks in document 01's order, the change of the record in place, the reply. Tables name
-   the settings' ranges and the texts of a reply. */
+/* Answering what was read: the checks in document 01's order, the change of the record in place, the reply and what
+   stands behind it. Tables name the settings' ranges and the texts of replies and info lines. */
 #ifndef ANSWERING_H
 #define ANSWERING_H
 #include "reading.h"
@@ -29,6 +29,11 @@ static const char warning_names[] = "FDFQFSFTFBFPFEWR";
 static const struct name refusal_names[] = {
     NAME("BADCOMMAND"), NAME("BADDATA"), NAME("BADAXIS"), NAME("DEVICEONLY"),
     NAME("NOACCESS"), NAME("PARKED"), NAME("STATUSBUSY"),
+};
+
+static const struct name help_texts[INFO_LINES] = {
+    NAME("home"), NAME("stop"), NAME("estop"), NAME("move"), NAME("get"), NAME("set"), NAME("tools storepos"),
+    NAME("warnings"), NAME("tools parking"), NAME("tools echo"), NAME("help commands"),
 };
 
 /* ---- the record */
@@ -268,6 +273,7 @@ static void obey(struct device *device, const struct command *command)
     case WARNINGS:
     case PARKING_STATE:
     case ECHO:
+    case HELP:
         return;
     case PARKING_PARK:
     case PARKING_UNPARK:
@@ -287,7 +293,7 @@ static void obey(struct device *device, const struct command *command)
     }
 }
 
-/* ---- the reply */
+/* ---- what is written */
 
 static byte *put(byte *to, const void *from, size_t length)
 {
@@ -380,29 +386,42 @@ static byte *put_data(byte *to, const struct device *device, const struct comman
     }
 }
 
-/* Everything before the data. */
-static byte *put_head(byte *to, const struct device *device, int axis, int number)
+/* What all kinds begin with: the byte that tells which it is, the address and the axis. */
+static byte *put_sender(byte *to, char kind, const struct device *device, int axis)
 {
-    struct span span = span_of(device, axis);
-    unsigned active = active_warnings(device, span);
-    *to++ = '@';
+    *to++ = (byte)kind;
     to = put_two_digits(to, device_setting(device, ADDRESS));
     *to++ = ' ';
     *to++ = '0' + axis;
-    to = put(to, number == ACCEPTED ? " OK " : " RJ ", 4);
-    to = put(to, moves(device, span) ? "BUSY " : "IDLE ", 5);
-    to = put(to, active == 0 ? "--" : warning_names + 2 * __builtin_ctz(active), 2);
+    return to;
+}
+
+/* The status and the highest warning, with a space before each. */
+static byte *put_status(byte *to, const struct device *device, int axis)
+{
+    struct span span = span_of(device, axis);
+    unsigned active = active_warnings(device, span);
+    to = put(to, moves(device, span) ? " BUSY " : " IDLE ", 6);
+    return put(to, active == 0 ? "--" : warning_names + 2 * __builtin_ctz(active), 2);
+}
+
+/* Everything of a reply before its data. */
+static byte *put_head(byte *to, const struct device *device, int axis, int number)
+{
+    to = put_sender(to, '@', device, axis);
+    to = put(to, number == ACCEPTED ? " OK" : " RJ", 3);
+    to = put_status(to, device, axis);
     *to++ = ' ';
     return to;
 }
 
-/* Everything behind the data. */
-static byte *put_tail(byte *to, const struct device *device, const byte *reply)
+/* What all kinds end with; from is where this one begins. */
+static byte *put_tail(byte *to, const struct device *device, const byte *from)
 {
     static const char digits[] = "0123456789ABCDEF";
     unsigned sum = 0;
     if (device_setting(device, CHECKSUM)) {
-        for (const byte *at = reply + 1; at < to; at++)
+        for (const byte *at = from + 1; at < to; at++)
             sum -= *at;
         *to++ = ':';
         *to++ = digits[sum >> 4 & 15];
@@ -413,14 +432,42 @@ static byte *put_tail(byte *to, const struct device *device, const byte *reply)
     return to;
 }
 
+static byte *put_info(byte *to, const struct device *device, struct name text)
+{
+    const byte *from = to;
+    to = put_sender(to, '#', device, 0);
+    *to++ = ' ';
+    to = put(to, text.text, text.length);
+    return put_tail(to, device, from);
+}
+
+static byte *put_help(byte *to, const struct device *device)
+{
+    for (int i = 0; i < INFO_LINES; i++)
+        to = put_info(to, device, help_texts[i]);
+    return to;
+}
+
 /* ---- one record and the line that was read */
+
+/* Refused by the line's reader, and with no reply: 1 to 4. */
+static int is_silent(int number)
+{
+    return number >= NOTLINE && number <= BADADDRESS;
+}
+
+/* Whether the line was read as the one that needs more room than replies do, and does not have it. */
+static int lacks_room(const struct command *command, int number, size_t records, size_t room)
+{
+    return number == 0 && command->row == HELP && room < records * ANSWER_BYTES;
+}
 
 static int concerns(const struct command *command, const struct device *device)
 {
     return command->address == 0 || command->address == device_setting(device, ADDRESS);
 }
 
-/* Obeys a command, unless its words or the record refuse it, and writes the reply. Answers 10 to 16 or 0. */
+/* Obeys a command, unless its words or the record refuse it, and writes the answer. Answers 10 to 16 or 0. */
 static int answer(struct device *device, const struct command *command, int number, byte *reply, size_t *written)
 {
     int axis = command->axis > axis_count(device) ? 0 : command->axis;
@@ -434,7 +481,10 @@ static int answer(struct device *device, const struct command *command, int numb
         to = put_data(to, device, command, before);
     else
         to = put(to, refusal_names[number - BADCOMMAND].text, refusal_names[number - BADCOMMAND].length);
-    *written = (size_t)(put_tail(to, device, reply) - reply);
+    to = put_tail(to, device, reply);
+    if (number == 0 && command->row == HELP)
+        to = put_help(to, device);
+    *written = (size_t)(to - reply);
     return number;
 }
 

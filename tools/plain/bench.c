@@ -6,6 +6,6 @@ int main(void)
 {
     if (make_fresh() != 0)
         return 1;
-    run_session(take, 0, report, REPLY_BYTES);
+    run_session(take, 0, report, ANSWER_BYTES);
     return 0;
 }

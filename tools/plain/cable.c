@@ -3,7 +3,7 @@
 #include "plain.h"
 #include "session.h"
 
-enum { RECORDS = 4, ROOM = RECORDS * REPLY_BYTES };
+enum { RECORDS = 4, ROOM = RECORDS * ANSWER_BYTES };
 
 static struct device chain[RECORDS];
 
@@ -12,12 +12,13 @@ static int take(const unsigned char *line, size_t length, unsigned char *reply, 
     return plain_chain(chain, RECORDS, line, length, reply, ROOM, written);
 }
 
-static int report(const unsigned char *part, size_t length)
+static int report(const unsigned char *part, size_t length, unsigned char *alert, size_t *written)
 {
     int number[4];
+    *written = 0;
     if (plain_read_report(part, length, number, 4) != 0 || number[0] < 1 || number[0] > RECORDS)
         return BADREPORT;
-    return plain_report(&chain[number[0] - 1], number[1], number[2], number[3]);
+    return plain_report(&chain[number[0] - 1], number[1], number[2], number[3], alert, REPLY_BYTES, written);
 }
 
 int main(void)

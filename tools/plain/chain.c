@@ -23,8 +23,6 @@ int plain_chain(struct device *devices, size_t count, const unsigned char *line,
                 unsigned char *reply, size_t room, size_t *written)
 {
     struct command command = { .row = NOTHING };
-    struct text rest;
-    struct word first;
     struct device *at, *end;
     unsigned char *to = reply;
     int number;
@@ -34,13 +32,14 @@ int plain_chain(struct device *devices, size_t count, const unsigned char *line,
     end = devices + count;
     if (!all_good(devices, end))
         return BADSTATE;
-    number = open_line(line, length, &rest, &command, &first);
-    if (number != 0)
+    number = read_line(line, length, &command);
+    if (is_silent(number))
         return number;
+    if (lacks_room(&command, number, count, room))
+        return NOROOM;
     at = next_concerned(&command, devices, end);
     if (at == end)
         return NOTMINE;
-    number = read_command(first, &rest, &command);
     for (; at < end; at = next_concerned(&command, at + 1, end)) {
         size_t more;
         answer(at, &command, number, to, &more);

@@ -3,8 +3,8 @@
 #include "record.h"
 #include "session.h"
 
-/* A place is at most the length of a line; then come `^` and LF, and the reply. */
-enum { ROOM = LINE_BYTES + 2 + REPLY_BYTES };
+/* A place is at most the length of a line; then come `^` and LF, and the answer. */
+enum { ROOM = LINE_BYTES + 2 + ANSWER_BYTES };
 
 static int tell(const unsigned char *line, size_t length)
 {

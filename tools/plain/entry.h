@@ -7,7 +7,7 @@
 long read(int, void *, size_t);
 long write(int, const void *, size_t);
 
-/* A program's own record, or its chain, takes one line: answers the number; written is the length of the replies. */
+/* A program's own record, or its chain, takes one line: answers the number; written is the length of the answers. */
 typedef int take_line(const unsigned char *line, size_t length, unsigned char *reply, size_t *written);
 
 static size_t read_entry(unsigned char *entry)

@@ -7,10 +7,7 @@
 static int place_in_line(const byte *line, size_t length)
 {
     struct command command = { .row = NOTHING };
-    struct text rest;
-    struct word first;
-    if (open_line(line, length, &rest, &command, &first) == 0)
-        read_command(first, &rest, &command);
+    read_line(line, length, &command);
     return command.wrong ? (int)(command.wrong - line) : NO_PLACE;
 }
 
@@ -19,8 +16,8 @@ static int place_in_line(const byte *line, size_t length)
 int plain_place(const struct device *device, const unsigned char *line, size_t length)
 {
     struct device copy = *device;
-    byte reply[REPLY_BYTES];
+    byte reply[ANSWER_BYTES];
     size_t written;
-    int number = plain_step(&copy, line, length, reply, REPLY_BYTES, &written);
+    int number = plain_step(&copy, line, length, reply, ANSWER_BYTES, &written);
     return number == BADADDRESS || number == BADDATA ? place_in_line(line, length) : NO_PLACE;
 }

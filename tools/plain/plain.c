@@ -1,5 +1,6 @@
 /* The carriage controller in C, the usual way: read the line, check in document 01's order, change the record in place,
-   write the reply. No memory is asked for. Reading and answering stand in reading.h and answering.h. */
+   write the answer. No memory is asked for. Reading and answering stand in reading.h and answering.h, and what a motor
+   report does and its alert here. */
 #include "plain.h"
 #include "reading.h"
 #include "answering.h"
@@ -28,30 +29,30 @@ int plain_step(struct device *device, const unsigned char *line, size_t length,
                unsigned char *reply, size_t room, size_t *written)
 {
     struct command command = { .row = NOTHING };
-    struct text rest;
-    struct word first;
     int number;
     *written = 0;
     if (room < REPLY_BYTES)
         return NOROOM;
     if (!is_good(device))
         return BADSTATE;
-    number = open_line(line, length, &rest, &command, &first);
-    if (number != 0)
+    number = read_line(line, length, &command);
+    if (is_silent(number))
         return number;
+    if (lacks_room(&command, number, 1, room))
+        return NOROOM;
     if (!concerns(&command, device))
         return NOTMINE;
-    number = read_command(first, &rest, &command);
     return answer(device, &command, number, reply, written);
 }
 
-int plain_report(struct device *device, int number, int kind, int p)
+/* Why the record refuses a report: 21, 22, or 0 if it does not. */
+static int report_refusal(const struct device *device, int number, int kind, int p)
 {
     if (!is_good(device))
         return BADSTATE;
     if (number < 1 || number > axis_count(device) || kind < 1 || kind > 5)
         return BADREPORT;
-    struct axis *axis = &device->axis[number - 1];
+    const struct axis *axis = &device->axis[number - 1];
     if (kind <= 3 && !within(p, -FURTHEST, FURTHEST))
         return BADREPORT;
     if (kind <= 2 && axis->motion == IDLE)
@@ -60,9 +61,19 @@ int plain_report(struct device *device, int number, int kind, int p)
         return BADREPORT;
     if (kind == 4 && !within(p, 1, 7))
         return BADREPORT;
+    return ACCEPTED;
+}
+
+static int ends_motion(int kind)
+{
+    return kind == 2 || kind == 3;
+}
+
+static void obey_report(struct axis *axis, int kind, int p)
+{
     if (kind <= 3)
         axis->setting[POS] = p;
-    if (kind == 2 || kind == 3)
+    if (ends_motion(kind))
         axis->motion = IDLE;
     if (kind == 3)
         axis->reference = 1;
@@ -70,6 +81,29 @@ int plain_report(struct device *device, int number, int kind, int p)
         axis->warnings |= 1u << (p - 1);
     if (kind == 5)
         axis->warnings &= ~(unsigned)FLAG_FD;
+}
+
+static byte *put_alert(byte *to, const struct device *device, int axis)
+{
+    const byte *from = to;
+    to = put_sender(to, '!', device, axis);
+    to = put_status(to, device, axis);
+    return put_tail(to, device, from);
+}
+
+int plain_report(struct device *device, int axis, int kind, int p,
+                 unsigned char *alert, size_t room, size_t *written)
+{
+    int number;
+    *written = 0;
+    if (room < REPLY_BYTES)
+        return NOROOM;
+    number = report_refusal(device, axis, kind, p);
+    if (number != 0)
+        return number;
+    obey_report(&device->axis[axis - 1], kind, p);
+    if (ends_motion(kind) && device_setting(device, ALERT))
+        *written = (size_t)(put_alert(alert, device, axis) - alert);
     return ACCEPTED;
 }
 

@@ -9,7 +9,9 @@ enum {
     AXIS_PLACES = 4,
     STORED_POSITIONS = 16,
     LINE_BYTES = 80,
-    REPLY_BYTES = 96,
+    REPLY_BYTES = 96,           /* as many as a reply, an info line or an alert may take */
+    INFO_LINES = 11,            /* of `help commands` */
+    ANSWER_BYTES = (1 + INFO_LINES) * REPLY_BYTES,  /* as many as one record's answer to any line may take */
     CHAIN_PLACES = 16,
     ENTRY_BYTES = 4096,
     NO_PLACE = 255
@@ -53,7 +55,9 @@ enum refusal {
 /* Makes the fresh record. Answers 0, or 21 and leaves the record as it is. */
 int plain_fresh(struct device *device, int address, int axiscount, int deviceid);
 
-/* Obeys one line and writes its reply. Answers document 01's number; written is the length of the reply. */
+/* Obeys one line and writes its answer: the reply and, behind that of an accepted `help commands`, the info lines.
+   Answers document 01's number; written is the length of the answer. REPLY_BYTES are enough room for any line but
+   `help commands`, which is 20 with under ANSWER_BYTES, whatever its address and axis. */
 int plain_step(struct device *device, const unsigned char *line, size_t length,
                unsigned char *reply, size_t room, size_t *written);
 
@@ -62,13 +66,17 @@ int plain_step(struct device *device, const unsigned char *line, size_t length,
    line's row refuse and nothing else; NO_PLACE with any other answer. The record stays as it is. */
 int plain_place(const struct device *device, const unsigned char *line, size_t length);
 
-/* Obeys one line on each record of a chain that it concerns, and writes their replies one behind the other, in the
-   order of the chain. Answers 20, 21, 1 to 4, or 5 if it concerns none; else 0, whatever the replies say. */
+/* Obeys one line on each record of a chain that it concerns, and writes their answers one behind the other, in the
+   order of the chain. Answers 20, 21, 1 to 4, or 5 if it concerns none; else 0, whatever the replies say. Room is asked
+   for as by plain_step, for each record of the chain. */
 int plain_chain(struct device *devices, size_t count, const unsigned char *line, size_t length,
                 unsigned char *reply, size_t room, size_t *written);
 
-/* Takes a motor report; p is the place for kind 4. Answers 0, or 21 or 22 and leaves the record as it is. */
-int plain_report(struct device *device, int axis, int kind, int p);
+/* Takes a motor report; p is the place for kind 4. Answers 0, or 20 with under REPLY_BYTES, 21 or 22 and leaves the
+   record as it is. Where comm.alert is 1 and the report ends a motion (kinds 2 and 3) it writes an alert for the axis;
+   written is its length, else 0. */
+int plain_report(struct device *device, int axis, int kind, int p,
+                 unsigned char *alert, size_t room, size_t *written);
 
 /* Reads `R` and so many numbers: three as `R axis kind p`, four as `R device axis kind p`. Answers 0, or 22 if it is
    misspelt, over 80 bytes or without a footer. */

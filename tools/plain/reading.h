@@ -50,16 +50,18 @@ enum row {
     STORED_GET, STORED_SET, STORED_CURRENT,
     WARNINGS, WARNINGS_CLEAR,
     PARKING_STATE, PARKING_PARK, PARKING_UNPARK,
-    ECHO
+    ECHO, HELP
 };
 
-enum first_word { WORD_HOME, WORD_STOP, WORD_ESTOP, WORD_MOVE, WORD_GET, WORD_SET, WORD_TOOLS, WORD_WARNINGS };
+enum first_word {
+    WORD_HOME, WORD_STOP, WORD_ESTOP, WORD_MOVE, WORD_GET, WORD_SET, WORD_TOOLS, WORD_WARNINGS, WORD_HELP
+};
 enum tools_word { WORD_STOREPOS, WORD_PARKING, WORD_ECHO };
 
 static const struct name first_words[] = {
     [WORD_HOME] = NAME("home"), [WORD_STOP] = NAME("stop"), [WORD_ESTOP] = NAME("estop"),
     [WORD_MOVE] = NAME("move"), [WORD_GET] = NAME("get"), [WORD_SET] = NAME("set"),
-    [WORD_TOOLS] = NAME("tools"), [WORD_WARNINGS] = NAME("warnings"),
+    [WORD_TOOLS] = NAME("tools"), [WORD_WARNINGS] = NAME("warnings"), [WORD_HELP] = NAME("help"),
 };
 static const struct name tools_words[] = {
     [WORD_STOREPOS] = NAME("storepos"), [WORD_PARKING] = NAME("parking"), [WORD_ECHO] = NAME("echo"),
@@ -71,6 +73,7 @@ static const struct name move_words[] = {
 static const struct name parking_words[] = { NAME("state"), NAME("park"), NAME("unpark") };
 static const struct name clear_word[] = { NAME("clear") };
 static const struct name current_word[] = { NAME("current") };
+static const struct name commands_word[] = { NAME("commands") };
 
 /* ---- words and numbers */
 
@@ -233,13 +236,6 @@ static int read_address(struct text *content, struct command *command, struct wo
     return 0;
 }
 
-/* Reads a line up to the first word of its command. Answers 2, 1, 3, 4 or 0. */
-static int open_line(const byte *line, size_t length, struct text *rest, struct command *command, struct word *first)
-{
-    int number = read_frame(line, length, rest);
-    return number == 0 ? read_address(rest, command, first) : number;
-}
-
 /* ---- the command's words */
 
 static int no_more(struct text *rest)
@@ -337,6 +333,12 @@ static int read_bare(struct text *rest, struct command *command, enum row row)
     return no_more(rest);
 }
 
+/* Only move, tools, get and set have a second word that is BADCOMMAND if it is wrong. */
+static int read_help(struct text *rest, struct command *command)
+{
+    return place_of(next_word(rest), commands_word, 1) == 0 ? read_bare(rest, command, HELP) : BADDATA;
+}
+
 /* Reads the command's words. Answers 10, 11 or 0. */
 static int read_command(struct word first, struct text *rest, struct command *command)
 {
@@ -359,9 +361,22 @@ static int read_command(struct word first, struct text *rest, struct command *co
         return read_tools(rest, command);
     case WORD_WARNINGS:
         return read_warnings(rest, command);
+    case WORD_HELP:
+        return read_help(rest, command);
     default:
         return BADCOMMAND;
     }
+}
+
+/* Reads a whole line. Answers 2, 1, 3, 4, 10, 11 or 0; with the last three address and axis are there. */
+static int read_line(const byte *line, size_t length, struct command *command)
+{
+    struct text rest;
+    struct word first;
+    int number = read_frame(line, length, &rest);
+    if (number == 0)
+        number = read_address(&rest, command, &first);
+    return number == 0 ? read_command(first, &rest, command) : number;
 }
 
 #endif

@@ -14,13 +14,16 @@ static int make_fresh(void)
 
 static int take(const unsigned char *line, size_t length, unsigned char *reply, size_t *written)
 {
-    return plain_step(&device, line, length, reply, REPLY_BYTES, written);
+    return plain_step(&device, line, length, reply, ANSWER_BYTES, written);
 }
 
-static int report(const unsigned char *part, size_t length)
+static int report(const unsigned char *part, size_t length, unsigned char *alert, size_t *written)
 {
-    int number[3], outcome = plain_read_report(part, length, number, 3);
-    return outcome == 0 ? plain_report(&device, number[0], number[1], number[2]) : outcome;
+    int number[3];
+    *written = 0;
+    if (plain_read_report(part, length, number, 3) != 0)
+        return BADREPORT;
+    return plain_report(&device, number[0], number[1], number[2], alert, REPLY_BYTES, written);
 }
 
 #endif

@@ -12,7 +12,7 @@ static void print(int steps, unsigned sum)
     write(1, text, (size_t)(to - text));
 }
 
-/* Reports beyond a record's axis count are refused and change nothing. */
+/* Reports beyond a record's axis count are refused and change nothing; with comm.alert 0 none writes an alert. */
 static void home_all(struct device *devices, int count, take_line *take, unsigned char *reply)
 {
     static const unsigned char home[] = { '/', 'h', 'o', 'm', 'e', '\n' };
@@ -20,7 +20,7 @@ static void home_all(struct device *devices, int count, take_line *take, unsigne
     take(home, sizeof home, reply, &written);
     for (int i = 0; i < count; i++)
         for (int axis = 1; axis <= AXIS_PLACES; axis++)
-            plain_report(&devices[i], axis, 3, 0);
+            plain_report(&devices[i], axis, 3, 0, reply, REPLY_BYTES, &written);
 }
 
 static unsigned take_often(take_line *take, const unsigned char *line, size_t length,

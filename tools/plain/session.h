@@ -1,5 +1,6 @@
 /* What bench, cable and console share: the whole run. Standard input is parted after each LF, and for each part the
-   replies to a line, `silent N` or `report N` is printed; by console a caret first, where a line has a place for it. */
+   answers to a line, `silent N`, or `report N` and behind it the alert, if there is one, are printed; by console a
+   caret first, where a line has a place for it. */
 #ifndef SESSION_H
 #define SESSION_H
 #include "entry.h"
@@ -9,8 +10,9 @@ enum { OUTPUT_BYTES = 65536 };
 /* Tells where a program's own record finds that a line went wrong, or NO_PLACE. */
 typedef int tell_place(const unsigned char *line, size_t length);
 
-/* A program's own record, or its chain, takes one motor report: answers the number. */
-typedef int take_report(const unsigned char *part, size_t length);
+/* A program's own record, or its chain, takes one motor report: answers the number; alert has REPLY_BYTES, and written
+   is the length of what was written there. */
+typedef int take_report(const unsigned char *part, size_t length, unsigned char *alert, size_t *written);
 
 static unsigned char output[OUTPUT_BYTES];
 static size_t held;
@@ -73,7 +75,17 @@ static void take_part(const unsigned char *part, size_t length, take_line *line,
     answer_line(part, length, line);
 }
 
-/* Takes all parts; room is as many bytes as may be printed for one of them. */
+/* Number and alert come of one call, and the number is printed first: so the alert waits in a buffer of its own. */
+static void answer_report(const unsigned char *part, size_t length, take_report *report)
+{
+    unsigned char alert[REPLY_BYTES];
+    size_t written;
+    say("report", report(part, length, alert, &written));
+    for (size_t i = 0; i < written; i++)
+        output[held++] = alert[i];
+}
+
+/* Takes all parts; room is as many bytes as may be printed for one of them, a line or a report. */
 static void run_session(take_line *line, tell_place *tell, take_report *report, size_t room)
 {
     static unsigned char entry[ENTRY_BYTES];
@@ -83,7 +95,7 @@ static void run_session(take_line *line, tell_place *tell, take_report *report, 
         if (OUTPUT_BYTES - held < room)
             flush();
         if (entry[at] == 'R')
-            say("report", report(entry + at, part));
+            answer_report(entry + at, part, report);
         else
             take_part(entry + at, part, line, tell);
     }
