@@ -7,7 +7,10 @@ use command::DeviceCommand;
 use command::Target;
 use device::Device;
 use host_reader::Message;
-use host_reader::ReplyRead;
+use host_reader::MessageRead;
+use host_reader::Said;
+use host_reader::State;
+use host_reader::Text;
 use host_reader::reading::field;
 use libc::STDOUT_FILENO;
 use units::Number;
@@ -95,24 +98,55 @@ fn say_either(yes: bool, a: &[u8], b: &[u8]) {
     }
 }
 
-// What a reply says.
-fn say_message(h: Message, reply: &[u8]) {
-    say(b" => address ");
-    say_number(h.address);
-    say(b", axis ");
-    say_number(h.axis);
-    say_either(h.ok, b": OK, ", b": RJ, ");
-    say_either(h.busy, b"BUSY, ", b"IDLE, ");
-    say(words::nth_word(b"-- FD FQ FS FT FB FP FE WR", h.warning));
+fn say_state(s: State) {
+    say_either(s.busy, b"BUSY, ", b"IDLE, ");
+    say(words::nth_word(b"-- FD FQ FS FT FB FP FE WR", s.warning));
+}
+
+fn say_text(t: Text, line: &[u8]) {
+    say(field(line, t.place, t.length));
+}
+
+fn say_data(ok: bool, s: State, t: Text, line: &[u8]) {
+    say_either(ok, b": OK, ", b": RJ, ");
+    say_state(s);
     say(b", data ");
-    say(field(reply, h.place, h.length));
+    say_text(t, line);
+}
+
+fn say_alert(s: State) {
+    say(b": alert, ");
+    say_state(s);
+}
+
+fn say_info(t: Text, line: &[u8]) {
+    say(b": info, text ");
+    say_text(t, line);
+}
+
+// What a message of each kind says.
+fn say_said(said: Said, line: &[u8]) {
+    match said {
+        Said::Reply(ok, s, t) => say_data(ok, s, t, line),
+        Said::Alert(s) => say_alert(s),
+        Said::Info(t) => say_info(t, line),
+    }
+}
+
+fn say_message(m: Message, line: &[u8]) {
+    say(b" => address ");
+    say_number(m.address);
+    say(b", axis ");
+    say_number(m.axis);
+    let said = m.said;
+    say_said(said, line);
     say(b"\n");
 }
 
 fn say_reply(reply: &[u8]) {
-    match host_reader::reading::read_reply(reply) {
-        ReplyRead::Reply(h) => say_message(h, reply),
-        ReplyRead::NotReply => say(b" => no reply\n"),
+    match host_reader::reading::read_message(reply) {
+        MessageRead::Message(m) => say_message(m, reply),
+        MessageRead::NotReply => say(b" => no reply\n"),
     }
 }
 

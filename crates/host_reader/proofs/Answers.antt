@@ -1,67 +1,58 @@
--- The two answers of `read_reply`, from what its parts found.
+-- The two answers of `read_message`, from what its parts found.
 -- Assumes nothing.
 use mathlib.Core.Path.{_≡_, refl, sym, ap, _∙_}
 use mathlib.Core.Bool.{Bool, true, false, cond, not, _&&_}
 use mathlib.Core.List.{List}
-use Prim.Native.Nat.{ℕ, _+_, _-_, _≤_, _<_}
-use native.Mathlib.Omega.{arith}
-use lib.Dec.{eqb}
+use Prim.Native.Nat.{ℕ, _≤_, _<_}
 use lib.ListN.{length}
 use borrow.Author.Tests.{le-leb, lt-leb}
 use Rattle.laws.specs.Refusals.{firstOf, ACCEPTED, NOTREPLY}
-use Rattle.host_reader.specs.Reading.{dataLength, headIn, rightHead, framed, messageOf, isReply, readReply, numberOf, replyRefusal}
-use Rattle.host_reader.specs.declared.Head.{Head}
-use Rattle.host_reader.specs.declared.ReplyRead.{ReplyRead}
-use Rattle.host_reader.specs.declared.ReplyRead.the-variants.{Reply, NotReply}
+use Rattle.host_reader.specs.Reading.{frontIn, contentEnd, saidIn, saidBy, ended, messageIn, isMessage, readMessage, numberOf, messageRefusal}
+use Rattle.host_reader.specs.declared.Front.{Front}
+use Rattle.host_reader.specs.declared.SaidRead.{SaidRead}
+use Rattle.host_reader.specs.declared.MessageRead.{MessageRead}
+use Rattle.host_reader.specs.declared.MessageRead.the-variants as Read
 
 module _ (l : List ℕ) where
-  pub too-long : 96 < length l → NotReply ≡ readReply l
-  unfolding readReply isReply
+  -- all tests but that of the length
+  abbrev pub right : Bool
+  right = frontIn l .right && saidBy l .right && ended l (contentEnd l)
+
+  pub too-long : 96 < length l → Read.NotReply ≡ readMessage l
+  unfolding readMessage isMessage
   too-long h = rw (lt-leb (length l) 96 h)
 
-  pub whole : length l ≤ 96 → (framed l (17 + dataLength l) && rightHead (headIn l)) ≡ true
-      → readReply l ≡ Reply (messageOf (headIn l) (dataLength l))
-  unfolding readReply isReply
+  pub whole : length l ≤ 96 → right ≡ true → readMessage l ≡ Read.Message (messageIn l)
+  unfolding readMessage isMessage
   whole h t = rw (le-leb (length l) 96 h, t)
 
-  broken : length l ≤ 96 → (framed l (17 + dataLength l) && rightHead (headIn l)) ≡ false → readReply l ≡ NotReply
-  unfolding readReply isReply
+  broken : length l ≤ 96 → right ≡ false → readMessage l ≡ Read.NotReply
+  unfolding readMessage isMessage
   broken h t = rw (le-leb (length l) 96 h, t)
 
   -- the number of what is read, by the table
-  pub numbered : numberOf (readReply l) ≡ replyRefusal l
-  unfolding readReply replyRefusal firstOf
-  numbered = go (isReply l)
+  pub numbered : numberOf (readMessage l) ≡ messageRefusal l
+  unfolding readMessage messageRefusal firstOf
+  numbered = go (isMessage l)
     where
-      go : (t : Bool) → numberOf (cond t (Reply (messageOf (headIn l) (dataLength l))) NotReply) ≡ cond (not t) NOTREPLY ACCEPTED
+      go : (t : Bool) → numberOf (cond t (Read.Message (messageIn l)) Read.NotReply) ≡ cond (not t) NOTREPLY ACCEPTED
       go true = refl
       go false = refl
 
-  -- what `read_reply` promises of its answer
-  pub told : {r : ReplyRead} → r ≡ readReply l → (r ≡ readReply l) × (numberOf r ≡ replyRefusal l)
+  -- what `read_message` promises of its answer
+  pub told : {r : MessageRead} → r ≡ readMessage l → (r ≡ readMessage l) × (numberOf r ≡ messageRefusal l)
   told e = (e, ap numberOf e ∙ numbered)
 
   -- as the code has it
-  module _ (end : ℕ) (h : Head) (f r : Bool) (short : length l ≤ 96) (e : end ≡ 17 + dataLength l) (q : h ≡ headIn l)
-      (p : f ≡ framed l end) (t : r ≡ rightHead h) where
-    tests : (f && r) ≡ (framed l (17 + dataLength l) && rightHead (headIn l))
-    tests = rw (p, t, e, q)
+  module _ (end : ℕ) (f : Front) (s : SaidRead) (t : Bool) (short : length l ≤ 96) (at-end : end ≡ contentEnd l) (front : f ≡ frontIn l)
+      (what : s ≡ saidIn l (f .mark) end) (ends : t ≡ ended l end) where
+    tests : (f .right && s .right && t) ≡ right
+    tests = rw (ends, what, front, at-end)
 
-    pub is-reply : (f && r) ≡ true
-        → Reply (record {
-          address = h .address;
-          axis = h .axis;
-          ok =
-              eqb (h .verdict) 1;
-          busy = eqb (h .status) 1;
-          warning = h .warning;
-          place = 17;
-          length = end - 17;
-        }) ≡ readReply l
-    unfolding messageOf
-    is-reply y =
-        let n : end - 17 ≡ dataLength l = omega arith in
-        rw (n, q) (sym (whole short (sym tests ∙ y)))
+    pub is-message : (f .right && s .right && t) ≡ true
+        → Read.Message (record { address = f .address; axis = f .axis; said = s .said }) ≡ readMessage l
+    unfolding messageIn
+    is-message y = rw (what, front, at-end) (sym (whole short (sym tests ∙ y)))
 
-    pub no-reply : (f && r) ≡ false → NotReply ≡ readReply l
-    no-reply y = sym (broken short (sym tests ∙ y))
+    pub no-message : (f .right && s .right && t) ≡ false → Read.NotReply ≡ readMessage l
+    no-message y = sym (broken short (sym tests ∙ y))

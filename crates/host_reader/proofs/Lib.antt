@@ -1,7 +1,11 @@
 pub mod Fields
-pub mod Heads
+pub mod Parts
 pub mod Answers
 pub mod Spelled
-pub mod Replies
+pub mod SpelledIsRead
+pub mod ReadIsSpelled
+pub mod Messages
+pub mod TextStands
 pub mod Cases
 pub mod ReadsBack
+pub mod HelpReadsBack

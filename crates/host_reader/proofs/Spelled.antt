@@ -1,4 +1,4 @@
--- The parts of a reply as Spelling has them, and as they are read: each way, part by part.
+-- The parts of a message as Spelling has them, and as they are read: each way, part by part.
 -- Assumes nothing.
 use mathlib.Core.Path.{_≡_, refl, sym, ap, _∙_}
 use mathlib.Core.Logic.{⊎-elim}
@@ -9,11 +9,13 @@ use native.Mathlib.Omega.{arith}
 use lib.Dec.{eqb, leb}
 use lib.ListN.{length, getD, take, drop}
 use borrow.Author.Tests.{eq-eqb, ne-eqb, eqb-false, le-leb, leb-true, not-true}
-use Rattle.laws.specs.Lists.{span}
+use Rattle.laws.specs.Lists.{fold, all, span}
 use Rattle.laws.specs.Text.{text, same}
 use Rattle.laws.proofs.Order.{eq-or-ne}
 use Rattle.laws.proofs.Bools.{and-left, and-right, clash}
+use Rattle.laws.proofs.Each.{Each}
 use Rattle.laws.proofs.Same.{same-true}
+use Rattle.laws.proofs.Spaced.{trail}
 use Rattle.laws.proofs.Span.{span-yes, span-not, span-none}
 use Rattle.numbers.specs.Checksum.{checksum}
 use Rattle.numbers.specs.Reading.{readPair, saysSum}
@@ -80,16 +82,16 @@ pub record Known (w : List ℕ) (k : ℕ) (ws : List (List ℕ)) (n : ℕ) : Typ
   pub place : index w ws ≡ k
   pub below : k < n
 
-pub record Said (w : List ℕ) (t : Bool) (ws : List (List ℕ)) : Type 0 where
+pub record Chosen (w : List ℕ) (t : Bool) (ws : List (List ℕ)) : Type 0 where
   pub below : index w ws < 2
   pub says : eqb (index w ws) 1 ≡ t
 
-pub verdict-read : {v : List ℕ} {ok : Bool} → Verdict v ok → Said v ok verdicts
+pub verdict-read : {v : List ℕ} {ok : Bool} → Verdict v ok → Chosen v ok verdicts
 unfolding verdicts index text same
 verdict-read accepted = record { below = omega arith; says = refl }
 verdict-read rejected = record { below = omega arith; says = refl }
 
-pub status-read : {v : List ℕ} {t : Bool} → Status v t → Said v t statuses
+pub status-read : {v : List ℕ} {t : Bool} → Status v t → Chosen v t statuses
 unfolding statuses index text same
 status-read idle = record { below = omega arith; says = refl }
 status-read busy = record { below = omega arith; says = refl }
@@ -128,7 +130,7 @@ warning-two fp = two
 warning-two fe = two
 warning-two wr = two
 
--- ---- data
+-- ---- texts
 space-is-data : dataByte 32 ≡ true
 unfolding dataByte
 space-is-data = refl
@@ -157,8 +159,50 @@ bytes-span e Bytes.none h = h
 bytes-span e (gap {s} b) h = span-yes dataByte 32 (s ++ e) space-is-data ∙ ap suc (bytes-span e b h)
 bytes-span e (byte {c} {s} w b) h = span-yes dataByte c (s ++ e) (word-is-data w) ∙ ap suc (bytes-span e b h)
 
+-- what the test of a byte says of a whole text
+all-bytes : (s : List ℕ) → all dataByte s ≡ true → Bytes s
+unfolding fold
+all-bytes [] t = Bytes.none
+all-bytes (c ∷ s) t =
+    let h = and-left (dataByte c) (all dataByte s) t in
+    let b = all-bytes s (and-right (dataByte c) (all dataByte s) t) in
+    ⊎-elim (λ e. rw e (gap b)) (λ k. byte (data-is-word c h k) b) (eq-or-ne c 32)
+
+pub verdict-bytes : {v : List ℕ} {ok : Bool} → Verdict v ok → Bytes v
+unfolding text dataByte fold
+verdict-bytes {v} accepted = all-bytes v refl
+verdict-bytes {v} rejected = all-bytes v refl
+
+pub status-bytes : {v : List ℕ} {t : Bool} → Status v t → Bytes v
+unfolding text dataByte fold
+status-bytes {v} idle = all-bytes v refl
+status-bytes {v} busy = all-bytes v refl
+
+pub warning-bytes : {w : List ℕ} {k : ℕ} → Warning w k → Bytes w
+unfolding text dataByte fold
+warning-bytes {w} Warning.none = all-bytes w refl
+warning-bytes {w} fd = all-bytes w refl
+warning-bytes {w} fq = all-bytes w refl
+warning-bytes {w} fs = all-bytes w refl
+warning-bytes {w} ft = all-bytes w refl
+warning-bytes {w} fb = all-bytes w refl
+warning-bytes {w} fp = all-bytes w refl
+warning-bytes {w} fe = all-bytes w refl
+warning-bytes {w} wr = all-bytes w refl
+
 pub data-bytes : {d : List ℕ} → Data d → Bytes d
 data-bytes (begun w b) = byte w b
+
+bytes-then : {s t : List ℕ} → Bytes s → Bytes t → Bytes (s ++ t)
+bytes-then Bytes.none k = k
+bytes-then (gap b) k = gap (bytes-then b k)
+bytes-then (byte w b) k = byte w (bytes-then b k)
+
+-- words of such bytes, each behind a space
+pub trail-bytes : {ws : List (List ℕ)} → Each Bytes ws → Bytes (trail ws)
+unfolding trail
+trail-bytes Each.none = Bytes.none
+trail-bytes (Each.more b bs) = gap (bytes-then b (trail-bytes bs))
 
 pub bytes-of : (r : List ℕ) → Bytes (take (span dataByte r) r)
 bytes-of [] = rw (span-none dataByte) Bytes.none
@@ -179,6 +223,11 @@ data-of (c ∷ r) h k = go (dataByte c) refl
     go false y = absurd (omega (arith, span-not dataByte c r y))
 
 -- ---- the end
+pub end-some : {s e : List ℕ} → End s e → 0 < length e
+unfolding text
+end-some bare = omega arith
+end-some (summed h) = omega arith
+
 pub end-span : {s e : List ℕ} → End s e → span dataByte e ≡ 0
 unfolding text dataByte span
 end-span bare = refl

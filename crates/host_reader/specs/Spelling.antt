@@ -1,5 +1,5 @@
--- How a reply is spelled: every rule composes a text from smaller ones. Nothing here says how a reply is read.
--- Read `rule : A → B → S s n` as: from an A and a B, the bytes s are a spelling S of n.
+-- How the messages of a device are spelled: replies, alerts and info lines. Every rule composes a text from smaller ones.
+-- Nothing here says how one is read. Read `rule : A → B → S s n` as: from an A and a B, the bytes s are a spelling S of n.
 use mathlib.Core.Bool.{Bool, true, false}
 use mathlib.Core.List.{List, [], _∷_, _++_}
 use Prim.Native.Nat.{ℕ, _+_, _*_, _≤_}
@@ -9,7 +9,9 @@ use Rattle.numbers.specs.Checksum.{checksum}
 use Rattle.numbers.specs.Spelling.{Digit, HexPair}
 use Rattle.words.specs.Spelling.{WordByte}
 use Rattle.reply.specs.Reply.{longestReply}
-use Rattle.host_reader.specs.declared.Message.{Message}
+use Rattle.host_reader.specs.declared.Said.{Said}
+use Rattle.host_reader.specs.declared.Said.the-variants.{Reply, Alert, Info}
+use Rattle.host_reader.specs.declared.Message.{Message as Meaning}
 
 -- "address in two digits", "address 01 to 99"
 pub data Address : List ℕ → ℕ → Type 0 where
@@ -56,19 +58,24 @@ pub data End (s : List ℕ) : List ℕ → Type 0 where
   bare : End s (text "\r\n")
   summed : {p : List ℕ} → HexPair p (checksum s) → End s (text ":" ++ p ++ text "\r\n")
 
--- "`@`, address in two digits, axis, OK or RJ, IDLE or BUSY, highest warning or `--`, data; single spaces between";
--- "at most 96 bytes in all". The data stand behind all that is composed before them.
-pub data Reply : List ℕ → Message → Type 0 where
-  reply : {a k v s w d e : List ℕ} {n m i : ℕ} {ok busy : Bool} → Address a n → Axis k m → Verdict v ok → Status s busy → Warning w i
-      → Data d
-      → End (spaced (a ∷ k ∷ v ∷ s ∷ w ∷ d ∷ [])) e → length (text "@" ++ spaced (a ∷ k ∷ v ∷ s ∷ w ∷ d ∷ []) ++ e) ≤ longestReply
-      → Reply (text "@" ++ spaced (a ∷ k ∷ v ∷ s ∷ w ∷ d ∷ []) ++ e)
-      (record {
-        address = n;
-        axis = m;
-        ok = ok;
-        busy = busy;
-        warning = i;
-        place = length (text "@" ++ spaced (a ∷ k ∷ v ∷ s ∷ w ∷ [] ∷ []));
-        length = length d;
-      })
+-- The three kinds: the mark, the words behind the address a and the axis k, and what is said by them. A text stands behind all that is
+-- composed before it.
+pub data Says (a k : List ℕ) : List ℕ → List (List ℕ) → Said → Type 0 where
+  -- "`@`, address in two digits, axis, OK or RJ, IDLE or BUSY, highest warning or `--`, data"
+  reply : {v s w d : List ℕ} {i : ℕ} {ok busy : Bool} → Verdict v ok → Status s busy → Warning w i → Data d
+      → Says a k (text "@") (v ∷ s ∷ w ∷ d ∷ [])
+      (Reply ok (record { busy = busy; warning = i })
+      (record { place = length (text "@" ++ spaced (a ∷ k ∷ v ∷ s ∷ w ∷ [] ∷ [])); length = length d }))
+  -- "alerts (`!`, address, axis, status, warning flag)"
+  alert : {s w : List ℕ} {i : ℕ} {busy : Bool} → Status s busy → Warning w i
+      → Says a k (text "!") (s ∷ w ∷ []) (Alert (record { busy = busy; warning = i }))
+  -- "info (`#`, address, axis, text)"; "Text follows the rule for reply data, or is empty with no space before it."
+  info : {d : List ℕ} → Data d
+      → Says a k (text "#") (d ∷ []) (Info (record { place = length (text "#" ++ spaced (a ∷ k ∷ [] ∷ [])); length = length d }))
+  empty : Says a k (text "#") [] (Info (record { place = length (text "#" ++ spaced (a ∷ k ∷ [])); length = 0 }))
+
+-- "single spaces between", "checksum and footer as in replies", "at most 96 bytes in all"
+pub data Message : List ℕ → Meaning → Type 0 where
+  message : {mark a k e : List ℕ} {ws : List (List ℕ)} {n m : ℕ} {said : Said} → Address a n → Axis k m → Says a k mark ws said
+      → End (spaced (a ∷ k ∷ ws)) e → length (mark ++ spaced (a ∷ k ∷ ws) ++ e) ≤ longestReply
+      → Message (mark ++ spaced (a ∷ k ∷ ws) ++ e) (record { address = n; axis = m; said = said })

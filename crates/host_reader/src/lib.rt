@@ -1,37 +1,70 @@
-// What a reply says, as types, and what its data may hold. The code that reads a reply stands in
-// reading.rt. The spelling is in specs/Spelling.antt, and proofs/Replies.antt shows that just that is read.
+// What a message of a device says, as types, and what its texts may hold. The code that reads a message stands in
+// reading.rt. The spelling is in specs/Spelling.antt, and proofs/Messages.antt shows that just that is read.
 ghost use mathlib.Core.Path.{_≡_};
 ghost use Rattle.laws.specs.Lists.{all};
 ghost use Rattle.host_reader.specs.Reading.{dataByte};
 
-// Where the data of a reply begin.
+// Where what a kind has of its own begins: behind mark, address and axis.
+pub const FRONT_END: usize = 5;
+// Where the data of a reply begin, and the text of an info line that is not empty.
 pub const DATA_PLACE: usize = 17;
 
-// What a reply says: OK or not, BUSY or not, its warning by the place from 1, 0 for `--`; and where its data stand in the line:
-// from which byte on, and how many.
-pub struct Message {
-    pub address: u64,
-    pub axis: u64,
-    pub ok: bool,
-    pub busy: bool,
-    pub warning: usize,
+pub const TEXT_PLACE: usize = 6;
+// Where an alert has said all.
+pub const ALERT_END: usize = 13;
+
+// Where a text stands in the line: from which byte on, and how many.
+pub struct Text {
     pub place: usize,
     pub length: usize,
 }
 
-pub enum ReplyRead {
-    Reply(Message),
+// BUSY or not, and the warning by its place from 1, 0 for `--`.
+pub struct State {
+    pub busy: bool,
+    pub warning: usize,
+}
+
+// What a message says for its axis. A reply: OK or not, the state, the data.
+pub enum Said {
+    Reply(bool, State, Text),
+    Alert(State),
+    Info(Text),
+}
+
+pub struct Message {
+    pub address: u64,
+    pub axis: u64,
+    pub said: Said,
+}
+
+pub enum MessageRead {
+    Message(Message),
     NotReply,
 }
 
-// The fields before the data: an address, 0 where there is none; an axis, above 9 where there is none; and the places of
-// three words in the lists of those that may stand there.
-pub struct Head {
+// Parts of a line as they are read, each with whether it is right. The front: the place of its mark in the list of marks; an
+// address, 0 where there is none; an axis, above 9 where there is none.
+pub struct Front {
+    pub mark: usize,
     pub address: u64,
     pub axis: u64,
-    pub verdict: usize,
-    pub status: usize,
-    pub warning: usize,
+    pub right: bool,
+}
+
+pub struct StateRead {
+    pub state: State,
+    pub right: bool,
+}
+
+pub struct TextRead {
+    pub text: Text,
+    pub right: bool,
+}
+
+pub struct SaidRead {
+    pub said: Said,
+    pub right: bool,
 }
 
 pub(crate) fn data_byte(c: u8) -> bool
@@ -40,7 +73,7 @@ pub(crate) fn data_byte(c: u8) -> bool
     (32 <= c) & (c <= 126) & (c != b':')
 }
 
-// Can every byte of s stand in the data of a reply?
+// Can every byte of s stand in a text?
 pub fn all_data(s: &[u8]) -> bool
     ensures { λ r. ⌜ r ≡ all dataByte (now (s .entry)) ⌝ }
 {

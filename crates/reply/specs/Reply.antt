@@ -1,5 +1,5 @@
--- The text of a reply: "`@`, address in two digits, axis, OK or RJ, IDLE or BUSY, highest warning or `--`, data; single
--- spaces between; `:CC` in upper case, summed from after the `@`, if comm.checksum is 1; CR LF."
+-- The texts that a device sends: replies, and with order 5 of document 02 alerts and info lines. All have a mark, "address in two
+-- digits, axis"; what their kind has; "single spaces between; `:CC` in upper case ..., if comm.checksum is 1; CR LF."
 use mathlib.Core.Bool.{Bool, cond}
 use mathlib.Core.List.{List, [], _∷_, _++_}
 use Prim.Native.Nat.{ℕ}
@@ -24,13 +24,39 @@ status busy = cond busy (text "BUSY") (text "IDLE")
 unfoldable pub highest : ℕ → List ℕ
 highest m = getD (warningsIn m) 0 (text "--")
 
--- what is summed
-unfoldable pub body : Head → List ℕ → List ℕ
-body h words = spaced (twoDigits (h .address) ∷ digits (h .axis) ∷ verdict (h .ok) ∷ status (h .busy) ∷ highest (h .warnings) ∷ words ∷ [])
-
 -- the checksum of s, where it is wanted, and the footer
 unfoldable pub ending : Bool → List ℕ → List ℕ
 ending sum s = sumText sum s ++ text "\r\n"
 
+-- what is summed of a message: address, axis, and the words ws that its kind has behind them
+abbrev pub bodyOf : ℕ → ℕ → List (List ℕ) → List ℕ
+bodyOf address axis ws = spaced (twoDigits address ∷ digits axis ∷ ws)
+
+-- its mark; that, "summed from after the `@`"; and its end
+abbrev pub message : List ℕ → List ℕ → Bool → List ℕ
+message mark s sum = mark ++ s ++ ending sum s
+
+-- "`@`, address in two digits, axis, OK or RJ, IDLE or BUSY, highest warning or `--`, data"
+unfoldable pub body : Head → List ℕ → List ℕ
+body h words = bodyOf (h .address) (h .axis) (verdict (h .ok) ∷ status (h .busy) ∷ highest (h .warnings) ∷ words ∷ [])
+
 unfoldable pub reply : Head → Bool → List ℕ → List ℕ
-reply h sum words = text "@" ++ body h words ++ ending sum (body h words)
+reply h sum words = message (text "@") (body h words) sum
+
+-- "alerts (`!`, address, axis, status, warning flag)"
+unfoldable pub alertBody : Head → List ℕ
+alertBody h = bodyOf (h .address) (h .axis) (status (h .busy) ∷ highest (h .warnings) ∷ [])
+
+unfoldable pub alert : Head → Bool → List ℕ
+alert h sum = message (text "!") (alertBody h) sum
+
+-- "info (`#`, address, axis, text)"; the text "is empty with no space before it", or one word behind a space
+abbrev pub textWords : List ℕ → List (List ℕ)
+textWords [] = []
+textWords (c ∷ t) = (c ∷ t) ∷ []
+
+unfoldable pub infoBody : ℕ → ℕ → List ℕ → List ℕ
+infoBody address axis t = bodyOf address axis (textWords t)
+
+unfoldable pub info : ℕ → ℕ → Bool → List ℕ → List ℕ
+info address axis sum t = message (text "#") (infoBody address axis t) sum

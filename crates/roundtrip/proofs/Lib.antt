@@ -6,6 +6,5 @@ pub mod Texts
 pub mod Rejecting
 pub mod ReadWords
 pub mod Shown
-pub mod Place
 pub mod ReplyReadsBack
 pub mod ChainReadsBack

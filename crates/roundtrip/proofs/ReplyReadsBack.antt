@@ -31,19 +31,20 @@ use Rattle.carriage.proofs.Replies.{shown-digit}
 use Rattle.carriage.proofs.Demands.{Rejects, dataFor, replyIn, each-answer, every-answer, good-goes-on}
 use Rattle.carriage.proofs.GoodForEver.{Event, reached, good-for-ever}
 use Rattle.host_reader.specs.Spelling.{Data}
-use Rattle.host_reader.specs.Reading.{field, readReply}
-use Rattle.host_reader.specs.declared.ReplyRead.{ReplyRead}
-use Rattle.host_reader.specs.declared.ReplyRead.the-variants.{Reply, NotReply}
-use Rattle.host_reader.proofs.ReadsBack.{heardOf, reads-back}
+use Rattle.host_reader.specs.Reading.{field, readMessage}
+use Rattle.host_reader.specs.declared.Said.{Said}
+use Rattle.host_reader.specs.declared.Said.the-variants.{Reply, Alert, Info}
+use Rattle.host_reader.specs.declared.MessageRead.{MessageRead}
+use Rattle.host_reader.specs.declared.MessageRead.the-variants as Read
+use Rattle.host_reader.proofs.ReadsBack.{heardReply, reply-text, reply-back}
 use Rattle.roundtrip.proofs.Rejecting.{Rejecting, bad-command, bad-data, bad-axis, device-only, no-access, parked, status-busy, name-data, device-rejects, line-rejects}
 use Rattle.roundtrip.proofs.ReadWords.{carried-words}
 use Rattle.roundtrip.proofs.Shown.{good-address, data-said}
-use Rattle.roundtrip.proofs.Place.{data-stands}
 
--- What the host understands of a reply of the next record for the axis k: address, status and highest warning of that record, the
--- axis, OK or not, and the data, byte for byte, from byte 17 on, as many as the message says.
+-- What the host understands of a reply of the next record for the axis k: that it is a reply; address, status and highest warning of
+-- that record, the axis, OK or not, and the data, byte for byte, from byte 17 on, as many as the message says.
 pub record Heard (s : Stepped) (k : ℕ) (ok : Bool) (words : List ℕ) : Type 0 where
-  pub message : readReply (replyIn s) ≡ Reply (heardOf (headOf (s .answer .next) k ok) words)
+  pub message : readMessage (replyIn s) ≡ Read.Message (heardReply (headOf (s .answer .next) k ok) words)
   pub data-is : field (replyIn s) 17 (length words) ≡ words
 
 -- What the host understands of the answer s to a line: the axis is the one that was read of the line, OK stands exactly where the
@@ -69,9 +70,10 @@ module _ (n : ℕ) (d : Device) (k : ℕ) (ok : Bool) (words b : List ℕ) (g : 
       let digit = shown-digit d k (good-count d g) in
       let address = good-address d g in
       record {
-        message = ap readReply front ∙ reads-back (headOf d k ok) (wantsSum d) words (address .0) (address .1)
-            (omega (arith, digit)) said (omega (arith, most-data (wantsSum d)));
-        data-is = ap (λ (x : List ℕ). field x 17 (length words)) front ∙ data-stands (headOf d k ok) words digit (wantsSum d);
+        message = ap readMessage front ∙ reply-back (headOf d k ok) (wantsSum d) (address .0) (address .1)
+            (omega (arith, digit)) words said (omega (arith, most-data (wantsSum d)));
+        data-is = ap (λ (x : List ℕ). field x 17 (length words)) front ∙ reply-text (headOf d k ok) (wantsSum d) (address .0) (address .1)
+            (omega (arith, digit)) words;
       }
 
 not-zero : {n : ℕ} → Rejecting n → eqb n 0 ≡ false
@@ -130,13 +132,18 @@ fresh-reads-back address count id es l b h =
     reply-reads-back (reached (askFresh address count id .next) es) l b (good-for-ever address count id es .places) h
 
 -- how many bytes of data a message says
-abbrev size : ReplyRead → ℕ
-size (Reply m) = m .length
-size NotReply = 0
+abbrev sizeIn : Said → ℕ
+sizeIn (Reply ok state words) = words .length
+sizeIn (Alert state) = 0
+sizeIn (Info words) = words .length
+
+abbrev size : MessageRead → ℕ
+size (Read.Message m) = sizeIn (m .said)
+size Read.NotReply = 0
 
 -- Replies with different data differ: a reply is heard with one data alone.
 pub one-data : {s t : Stepped} {k j : ℕ} {ok fine : Bool} {words other : List ℕ} → Heard s k ok words → Heard t j fine other
     → replyIn s ≡ replyIn t → words ≡ other
 one-data {s} {t} {words = words} {other = other} x y e =
-    let m : length words ≡ length other = ap size (sym (x .message) ∙ ap readReply e ∙ y .message) in
+    let m : length words ≡ length other = ap size (sym (x .message) ∙ ap readMessage e ∙ y .message) in
     sym (x .data-is) ∙ ap (λ (z : List ℕ). field z 17 (length words)) e ∙ ap (λ (i : ℕ). field (replyIn t) 17 i) m ∙ y .data-is

@@ -1,9 +1,12 @@
-// The fields of a reply's line, each at its place: bytes, marks and the fields before the data.
+// The fields of a message's line: bytes and texts at a place, the front of every message, and the state in it.
 // The rules are in specs/Reading.antt.
 ghost use mathlib.Core.Path.{_≡_};
 ghost use lib.ListN.{take, drop, getD};
-ghost use Rattle.host_reader.specs.Reading.{stands, twoOf, marked, headIn, rightHead};
-use crate::Head;
+ghost use Rattle.numbers.specs.Reading.{valueOf};
+ghost use Rattle.host_reader.specs.Reading.{stands, twoOf, frontIn, stateIn};
+use crate::Front;
+use crate::State;
+use crate::StateRead;
 use units::lesser;
 use words::find_word;
 use words::same_bytes;
@@ -39,17 +42,11 @@ pub fn stands_at(s: &[u8], at: usize, w: &[u8]) -> bool
     same_bytes(field(s, at, w.len()), w)
 }
 
-// The marks between the fields.
-pub fn is_marked(line: &[u8]) -> bool
-    ensures { λ r. ⌜ r ≡ marked (now (line .entry)) ⌝ }
+// What the digit at a place stands for.
+fn digit_at(s: &[u8], at: usize) -> u64
+    ensures { λ r. ⌜ r ≡ valueOf (getD (now (s .entry)) at 0) ⌝ }
 {
-    let first = stands_at(line, 0, b"@");
-    let a = stands_at(line, 3, b" ");
-    let b = stands_at(line, 5, b" ");
-    let c = stands_at(line, 8, b" ");
-    let d = stands_at(line, 13, b" ");
-    let e = stands_at(line, 16, b" ");
-    first & a & b & c & d & e
+    numbers::digits::digit_value(byte_at(s, at))
 }
 
 // The number that two digits say, 0 where one of them is none.
@@ -63,27 +60,34 @@ fn two_of(tens: u64, ones: u64) -> u64
     }
 }
 
-// The fields of a line, each at its place.
-pub fn read_head(line: &[u8]) -> Head
-    ensures { λ r. ⌜ r ≡ headIn (now (line .entry)) ⌝ }
+// Mark, address and axis: the front of a message of any kind.
+pub fn read_front(line: &[u8]) -> Front
+    ensures { λ r. ⌜ r ≡ frontIn (now (line .entry)) ⌝ }
 {
-    let tens = numbers::digits::digit_value(byte_at(line, 1));
-    let ones = numbers::digits::digit_value(byte_at(line, 2));
-    let axis = numbers::digits::digit_value(byte_at(line, 4));
-    let verdict = find_word(field(line, 6, 2), b"RJ OK");
-    let status = find_word(field(line, 9, 4), b"IDLE BUSY");
-    let warning = find_word(field(line, 14, 2), b"-- FD FQ FS FT FB FP FE WR");
-    Head {
-        address: two_of(tens, ones),
+    let mark = find_word(field(line, 0, 1), b"@ ! #");
+    let address = two_of(digit_at(line, 1), digit_at(line, 2));
+    let parted = stands_at(line, 3, b" ");
+    let axis = digit_at(line, 4);
+    Front {
+        mark,
+        address,
         axis,
-        verdict,
-        status,
-        warning,
+        right: (mark < 3) & (1 <= address) & parted & (axis < 10),
     }
 }
 
-pub fn right_head(h: Head) -> bool
-    ensures { λ r. ⌜ r ≡ rightHead h ⌝ }
+// Status and warning, from the front of s on.
+pub fn read_state(s: &[u8]) -> StateRead
+    ensures { λ r. ⌜ r ≡ stateIn (now (s .entry)) ⌝ }
 {
-    (1 <= h.address) & (h.axis < 10) & (h.verdict < 2) & (h.status < 2) & (h.warning < 9)
+    let status = find_word(field(s, 0, 4), b"IDLE BUSY");
+    let parted = stands_at(s, 4, b" ");
+    let warning = find_word(field(s, 5, 2), b"-- FD FQ FS FT FB FP FE WR");
+    StateRead {
+        state: State {
+            busy: status == 1,
+            warning,
+        },
+        right: (status < 2) & parted & (warning < 9),
+    }
 }
