@@ -7,19 +7,19 @@
      bytes 16 on     the line: all bytes that are left, whatever they are.
    What is done:
      The record at place i of LENGTH, from 1, is the fresh one with address i, two axes and device id 99 + i. The buffer
-     is 1,536 bytes, all zero, and is lent whole.
+     is 18,432 bytes, all zero, and is lent whole.
      If HOMED is 1, the line `/home` LF goes through the chain into that buffer, and then home reached at 0 is reported
      (kind 3) for axes 1 and 2 of each record. Nothing of this is counted.
      Then the line goes through the chain REPEAT times, each time on the records that the time before left, into that
      same buffer.
    Standard output: `STEPS SUM` LF, in decimal.
      STEPS is REPEAT. SUM is, modulo 2^31, the sum of the numbers and the lengths that the counted calls answered and,
-     at the end, of all 1,536 bytes of the buffer.
+     at the end, of all 18,432 bytes of the buffer.
    A first line that is misspelt, or a LENGTH outside 1 to 16, gives `0 0`. */
 #include "plain.h"
 #include "repeat.h"
 
-enum { HEAD_BYTES = 16, ROOM = CHAIN_PLACES * REPLY_BYTES };
+enum { HEAD_BYTES = 16, ROOM = CHAIN_PLACES * ANSWER_BYTES };
 
 static struct device chain[CHAIN_PLACES];
 static int places;

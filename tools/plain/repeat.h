@@ -41,7 +41,7 @@ static unsigned take_often(take_line *take, const unsigned char *line, size_t le
    fresh records that NUMBER asks for and answers how many they are, 0 if none. room is the buffer's length. */
 static void run_repeat(size_t head, int (*make)(int number), struct device *devices, take_line *take, size_t room)
 {
-    static unsigned char entry[ENTRY_BYTES], reply[CHAIN_PLACES * REPLY_BYTES];
+    static unsigned char entry[ENTRY_BYTES], reply[CHAIN_PLACES * ANSWER_BYTES];
     size_t length = read_entry(entry);
     int number[3], count = 0;
     if (length >= head && plain_read_report(entry, head, number, 3) == 0)

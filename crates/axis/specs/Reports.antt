@@ -36,6 +36,15 @@ takes (Raised n) a = isWarning n
 takes DriverNormal a = true
 takes Unknown a = false
 
+-- "2 and 3 make the axis idle"
+abbrev pub rests : Report → Bool
+rests (MovingAt p) = false
+rests (StoppedAt p) = true
+rests (HomeReached p) = true
+rests (Raised n) = false
+rests DriverNormal = false
+rests Unknown = false
+
 abbrev pub reported : Report → Axis → Axis
 reported (MovingAt p) a = placed p (a .motion) (a .reference) a
 reported (StoppedAt p) a = placed p Idle (a .reference) a

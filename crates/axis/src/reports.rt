@@ -4,7 +4,7 @@ ghost use mathlib.Core.Path.{_≡_};
 ghost use Prim.Native.Nat.{_≤_, _^_, _-_};
 ghost use Rattle.axis.specs.Record.{withWarnings};
 ghost use Rattle.axis.specs.RaisedWarnings.{raise as raiseOf, raised as raisedOf, isWarning};
-ghost use Rattle.axis.specs.Reports.{placed as placedAt, reportOf, takes as takesOf, reported as reportedOf};
+ghost use Rattle.axis.specs.Reports.{placed as placedAt, reportOf, takes as takesOf, rests as restsOf, reported as reportedOf};
 use crate::Axis;
 use crate::Motion;
 use units::Number;
@@ -125,6 +125,16 @@ pub fn takes(axis: Axis, r: Report) -> bool
         Report::Raised(n) => is_warning(n),
         Report::DriverNormal => true,
         Report::Unknown => false,
+    }
+}
+
+// Does it make the axis idle?
+pub fn rests(r: Report) -> bool
+    ensures { λ x. ⌜ x ≡ restsOf r ⌝ }
+{
+    match r {
+        Report::StoppedAt(_) | Report::HomeReached(_) => true,
+        _ => false,
     }
 }
 

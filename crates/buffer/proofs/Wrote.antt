@@ -7,9 +7,10 @@ use Prim.Native.Nat.{ℕ, suc, _+_, _-_, _≤_, _<_, min, max}
 use native.Mathlib.Nat.{suc-add, add-suc, add-zero}
 use native.Mathlib.Numerals.{add-one}
 use native.Mathlib.Omega.{arith}
-use lib.ListN.{length, getD, set, take, drop, length-append, length-take, length-set, take-append-drop, drop-of-length-le}
-use lib.Seq.{take-suc, take-at, take-all, take-suc-set, drop-set-lt, sets, length-sets, set-out}
+use lib.ListN.{length, getD, set, take, drop, length-append, length-take, length-drop, length-set, take-append-drop, drop-of-length-le}
+use lib.Seq.{take-suc, take-at, take-all, drop-drop, take-suc-set, drop-set-lt, sets, length-sets, set-out}
 use Rattle.laws.proofs.Answers.{one-answer}
+use Rattle.laws.proofs.Lists.{rest}
 use Rattle.laws.proofs.Order.{lt-or-le}
 use Rattle.buffer.specs.Wrote.{Wrote, fitting}
 
@@ -117,6 +118,23 @@ wrote-read {b} {t} {c} {r} w h =
     let k = wrote-room w (omega arith) in
     let e : r ≡ length t = k .1 ∙ omega arith in
     rw (e, k .0) (take-at t (drop (0 + length t) b) (length t) refl)
+
+-- a write into what stands from a place on, as the code lends it, is one into the whole; nothing lies behind what is lent
+pub rest-over : (k : ℕ) (b : List ℕ) → drop (length b - k) (drop k b) ≡ []
+rest-over k b = let h : length (drop k b) ≤ length b - k = rw length-drop (omega arith) in drop-of-length-le (drop k b) h
+
+pub wrote-rest : {b : List ℕ} {at : ℕ} {t c : List ℕ} {r : ℕ} → Wrote (take (length b - at) (drop at b)) 0 t c r
+    → Wrote b at t (take at b ++ (c ++ drop (length b - at) (drop at b))) (at + r)
+wrote-rest {b} {at} {t} {c} {r} w =
+    let room : length (drop at b) - 0 ≡ length b - at = omega (arith, length-drop at b) in
+    let sum : at + (0 + length t) ≡ at + length t = omega arith in
+    let behind : drop (0 + length t) (drop at b) ≡ drop (at + length t) b = drop-drop (0 + length t) at b ∙ rw sum in
+    let v : Wrote (drop at b) 0 t c r = rw (rest at b) at w in
+    record {
+      bytes = ap (λ (l : List ℕ). take at b ++ l) (rw (rest-over at b) (append-nil c) ∙ v .bytes ∙ rw (room, behind))
+          ∙ sym (append-assoc (take at b) (fitting b at t) _);
+      place = ap (λ n. at + n) (v .place) ∙ rw room (omega arith);
+    }
 
 -- the promise leaves no choice
 pub wrote-one : {b : List ℕ} {at : ℕ} {t c d : List ℕ} {r q : ℕ} → Wrote b at t c r → Wrote b at t d q → (c ≡ d) × (r ≡ q)

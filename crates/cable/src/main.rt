@@ -5,11 +5,12 @@ ghost use Rattle.chain_session.specs.Held.{recordsOf, holding};
 ghost use Rattle.chain_session.specs.Cable.{turn as turnOf};
 use chain_session::Cable;
 
-// Prints what a part makes of the chain, and hands on the next one. The replies to one part have at most 96 bytes for each record.
+// Prints what a part makes of the chain, and hands on the next one. The answers to one part have at most 96 bytes for the reply and for
+// each info line of each record.
 fn answer(c: Cable, part: &[u8]) -> Cable
     ensures { λ r. ⌜ r ≡ holding c (turnOf (recordsOf c) (now (part .entry)) .next) ⌝ }
 {
-    let mut out = [0u8; 384];
+    let mut out = [0u8; 4608];
     let t = chain_session::turn(c, part, &mut out, 0);
     io::write_all(libc::STDOUT_FILENO, &out[..t.place]);
     t.next

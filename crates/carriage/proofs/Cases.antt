@@ -15,6 +15,7 @@ use Rattle.device.specs.declared.Device.{Device}
 use Rattle.device.specs.Record.{fresh}
 use Rattle.rules.specs.Reports.{isAxis, badReport, reportRefusal}
 use Rattle.rules.specs.Reports as Device
+use Rattle.reply.specs.Help.{longestAnswer}
 use Rattle.carriage.specs.Step.{step}
 use Rattle.carriage.specs.Report.{report}
 use Rattle.carriage.specs.Open.{answering}
@@ -26,10 +27,10 @@ freshDevice = fresh (number (pos 1)) 2 (number (pos 100))
 
 -- what came before: a line; a motor report of an axis, its kind and its last number
 abbrev sent : String → Event
-sent l = line (text l) (replicate 96 0)
+sent l = line (text l) (replicate longestAnswer 0)
 
 abbrev told : ℕ → ℕ → ℕ → Event
-told axis kind last = motor (number (pos axis)) (number (pos kind)) (number (pos last))
+told axis kind last = motor (number (pos axis)) (number (pos kind)) (number (pos last)) (replicate 96 0)
 
 infixl 20 _then_
 abbrev _then_ : List Event → String → List Event
@@ -103,7 +104,7 @@ pub record Said : Type 0 where
 
 unfoldable pub said : Case → Said
 said c =
-    let s = step (reached freshDevice (c .before)) (text (c .line)) (replicate 96 0) in
+    let s = step (reached freshDevice (c .before)) (text (c .line)) (replicate longestAnswer 0) in
     record { number = s .answer .number; bytes = take (s .answer .length) (s .buffer) }
 
 unfoldable pub wanted : Case → Said

@@ -2,13 +2,14 @@
 -- Assumes nothing.
 use mathlib.Core.Path.{_≡_, refl, sym, ap, _∙_}
 use mathlib.Core.Bool.{Bool, true, false, cond, not}
-use mathlib.Core.List.{List, [], _∷_, _++_}
+use mathlib.Core.List.{List, [], _∷_, _++_, append-nil}
 use Prim.Native.Nat.{ℕ}
 use native.Mathlib.Omega.{arith}
 use lib.Dec.{eqb, ltb}
 use lib.ListN.{length, take, drop}
 use lib.Seq.{take-at}
 use borrow.Author.Tests.{eqb-true, eqb-false, ne-eqb}
+use Rattle.laws.specs.Lists.{fold}
 use Rattle.laws.specs.Refusals.{Refusal, _when_, firstOf}
 use Rattle.laws.proofs.Answers.{one-answer}
 use Rattle.laws.proofs.Bools.{not-false}
@@ -29,9 +30,10 @@ use Rattle.rules.specs.Effects.{next, obey}
 use Rattle.rules.proofs.GoodStays.{good-stays}
 use Rattle.rules.proofs.RefusalKeeps.{accepted-next}
 use Rattle.reply.specs.Data.{refusalName}
+use Rattle.reply.specs.Reply.{joined}
 use Rattle.view.specs.Data.{dataOf}
 use Rattle.carriage.specs.declared.Answer.{Answer}
-use Rattle.carriage.specs.Step.{Stepped, Gives, silent, written, replyOf, rejected, accepted, obeyed, unread, notMine, answered, silence, respond, step}
+use Rattle.carriage.specs.Step.{Stepped, Gives, silent, written, replyOf, rejected, infosOf, accepted, obeyed, unread, notMine, answered, roomFor, silence, respond, step}
 
 -- "length 0, nothing written": and the record stays
 pub record Unchanged (d : Device) (b : List ℕ) (s : Stepped) : Type 0 where
@@ -42,7 +44,7 @@ pub record Unchanged (d : Device) (b : List ℕ) (s : Stepped) : Type 0 where
 -- the rows of the table of silences: none of them applies where there is no silence
 module _ (d : Device) (r : LineRead) (b : List ℕ) (e : silence d r b ≡ 0) where
   abbrev read : List Refusal
-  read = unread r when not (eqb (unread r) 0) ∷ 5 when notMine d r ∷ []
+  read = unread r when not (eqb (unread r) 0) ∷ 20 when ltb (length b) (roomFor r) ∷ 5 when notMine d r ∷ []
 
   room : firstOf (21 when not (good d) ∷ read) ≡ 0
   unfolding silence
@@ -55,7 +57,7 @@ module _ (d : Device) (r : LineRead) (b : List ℕ) (e : silence d r b ≡ 0) wh
   unfolding firstOf
   read-number = go (unread r) (eqb (unread r) 0) refl (below 20 (not (good d)) read room)
     where
-      go : (n : ℕ) (t : Bool) → eqb n 0 ≡ t → cond (not t) n (cond (notMine d r) 5 0) ≡ 0 → n ≡ 0
+      go : (n : ℕ) (t : Bool) → eqb n 0 ≡ t → cond (not t) n (cond (ltb (length b) (roomFor r)) 20 (cond (notMine d r) 5 0)) ≡ 0 → n ≡ 0
       go n true q h = eqb-true n 0 q
       go n false q h = h
 
@@ -142,7 +144,8 @@ unfolding silent rejected accepted written
 keeps-behind d l b =
     every-answer (Behind b) d l b (record { text = []; long = refl; left = refl })
     (λ n k g. record { text = replyOf d k false (refusalName n); long = refl; left = refl })
-    (λ k c es g e w. record { text = replyOf (next d k c) k true (dataOf d k es c); long = refl; left = refl })
+    (λ k c es g e w.
+    record { text = replyOf (next d k c) k true (dataOf d k es c) ++ joined (infosOf (next d k c) c); long = refl; left = refl })
 
 -- ---- the reply
 
@@ -152,28 +155,39 @@ abbrev pub dataFor : Device → List ℕ → ℕ → ℕ → WordsRead → ℕ �
 dataFor d l k end (Words.Refused m p) n = refusalName n
 dataFor d l k end (Words.Command c from) n = cond (eqb n 0) (dataOf d k (carriedBy c (drop from (take end l))) c) (refusalName n)
 
--- what an answer s leaves in the buffer, and the reply of its next record to what was read: for the axis that was sent, OK exactly
--- where its number is 0
-abbrev pub replyIn : Stepped → List ℕ
-replyIn s = take (s .answer .length) (s .buffer)
+-- the info lines behind it: those of a command that is accepted
+abbrev pub infosFor : Device → WordsRead → ℕ → List (List ℕ)
+infosFor e (Words.Refused m p) n = []
+infosFor e (Words.Command c from) n = cond (eqb n 0) (infosOf e c) []
 
-abbrev pub replyTo : Device → List ℕ → LineRead → Stepped → List ℕ
-replyTo d l (Silent n p) s = []
-replyTo d l (Addressed a k end w) s = replyOf (s .answer .next) k (eqb (s .answer .number) 0) (dataFor d l k end w (s .answer .number))
+-- what an answer s leaves in the buffer; the reply of its next record to what was read, for the axis that was sent, OK exactly where its
+-- number is 0; and that reply with the info lines behind it
+abbrev pub sentIn : Stepped → List ℕ
+sentIn s = take (s .answer .length) (s .buffer)
+
+abbrev pub replyTo : Device → List ℕ → ℕ → ℕ → WordsRead → Stepped → List ℕ
+replyTo d l k end w s = replyOf (s .answer .next) k (eqb (s .answer .number) 0) (dataFor d l k end w (s .answer .number))
+
+abbrev pub answerTo : Device → List ℕ → LineRead → Stepped → List ℕ
+answerTo d l (Silent n p) s = []
+answerTo d l (Addressed a k end w) s = replyTo d l k end w s ++ joined (infosFor (s .answer .next) w (s .answer .number))
 
 -- "A reply describes the record after the command": whatever is read of the line, nothing else stands in the buffer.
 pub reply-describes-next : (d : Device) (l b : List ℕ) → (step d l b .answer .length ≡ 0 → ⊥)
-    → replyIn (step d l b) ≡ replyTo d l (readLine l) (step d l b)
-unfolding silent rejected accepted written
+    → sentIn (step d l b) ≡ answerTo d l (readLine l) (step d l b)
+unfolding silent rejected accepted written joined fold
 reply-describes-next d l b =
-    each-answer (λ s. (s .answer .length ≡ 0 → ⊥) → replyIn s ≡ replyTo d l (readLine l) s) d l b (λ n h. absurd (h refl))
-    (λ a k end m p is w g h. rw is (rw (misspelt-some w) (front (replyOf d k false (refusalName m)))))
-    (λ a k end from c is g r h. rw (is, ne-eqb (refusal d k c) 0 r) (front (replyOf d k false (refusalName (refusal d k c)))))
+    each-answer (λ s. (s .answer .length ≡ 0 → ⊥) → sentIn s ≡ answerTo d l (readLine l) s) d l b (λ n h. absurd (h refl))
+    (λ a k end m p is w g h. rw is (rw (misspelt-some w) (alone (replyOf d k false (refusalName m)))))
+    (λ a k end from c is g r h. rw (is, ne-eqb (refusal d k c) 0 r) (alone (replyOf d k false (refusalName (refusal d k c)))))
     (λ a k end from c is g e h.
-    rw is (front (replyOf (next d k c) k true (dataOf d k (carriedBy c (drop from (take end l))) c))))
+    rw is (front (replyOf (next d k c) k true (dataOf d k (carriedBy c (drop from (take end l))) c) ++ joined (infosOf (next d k c) c))))
   where
     front : (t : List ℕ) → take (length t) (t ++ drop (length t) b) ≡ t
     front t = take-at t (drop (length t) b) (length t) refl
+
+    alone : (t : List ℕ) → take (length t) (t ++ drop (length t) b) ≡ t ++ joined []
+    alone t = front t ∙ sym (append-nil t)
 
 -- The promise of a step leaves no choice: two results and buffers that meet it are the same.
 pub gives-one : {s : Stepped} {r q : Answer} {b c : List ℕ} → Gives s r b → Gives s q c → (r ≡ q) × (b ≡ c)

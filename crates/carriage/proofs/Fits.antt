@@ -218,6 +218,7 @@ module _ (d : Device) (k : ℕ) (g : Good d) (few : d .count ≤ 4) (there : k �
       go true = omega arith
       go false = omega arith
   text-fits ws h f Data.Words = h
+  text-fits ws h f Data.Info = omega arith
 
 -- the echo of words that stand in 74 bytes, and of none
 pub echo-short : (c : Command) (s : List ℕ) → (carriesWords c ≡ true → length s ≤ 74) → length (echoed (carriedBy c s)) ≤ 74

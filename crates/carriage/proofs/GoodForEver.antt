@@ -10,7 +10,8 @@ use Rattle.laws.proofs.Walks.{length-change}
 use Rattle.units.specs.Units.{place}
 use Rattle.units.specs.declared.Number.{Number}
 use Rattle.axis.specs.declared.reports.Report.{Report as Motor}
-use Rattle.axis.specs.Reports.{reportOf, reported}
+use Rattle.axis.specs.Reports.{reportOf}
+use Rattle.axis.specs.Reports as Axis
 use Rattle.device.specs.declared.Device.{Device}
 use Rattle.device.specs.declared.Outcome.{Outcome}
 use Rattle.device.specs.Record.{many, onAxes, fresh}
@@ -24,16 +25,17 @@ use Rattle.rules.proofs.BeyondCount.{places-stay}
 use Rattle.carriage.specs.Step.{silent, written, rejected, accepted, step}
 use Rattle.carriage.specs.Report.{report}
 use Rattle.carriage.proofs.Demands.{every-answer, good-goes-on}
+use Rattle.carriage.proofs.Room.{by-report}
 
--- what can come: a line with the buffer lent for its reply, or a motor report with its three numbers
+-- what can come: a line with the buffer lent for its answer, or a motor report with its three numbers and the buffer lent for its alert
 pub data Event : Type 0 where
   line : List ℕ → List ℕ → Event
-  motor : Number → Number → Number → Event
+  motor : Number → Number → Number → List ℕ → Event
 
 -- the record after an event
 abbrev pub after : Device → Event → Device
 after d (line l b) = step d l b .answer .next
-after d (motor axis kind last) = report d axis kind last .next
+after d (motor axis kind last b) = report d axis kind last b .answer .next
 
 -- the record that a list of events leads to
 unfoldable pub reached : Device → List Event → Device
@@ -57,16 +59,22 @@ unfolding onAxes
 report-places d axis r =
     let k = place (axis .0) in
     elim (ℕ-discrete (Device.report d axis r .number) 0) [
-      | yes e ↦ ap (λ (x : Device). length (x .axes)) (report-next d axis r e) ∙ length-change (reported r) (k - 1) (many d k) (d .axes)
+      | yes e ↦ ap (λ (x : Device). length (x .axes)) (report-next d axis r e)
+          ∙ length-change (Axis.reported r) (k - 1) (many d k) (d .axes)
       | no h ↦ ap (λ (x : Device). length (x .axes)) (report-keeps d axis r h)
     ]
 
 -- one event
 pub well-after : (d : Device) (e : Event) → Well d → Well (after d e)
-unfolding report
+unfolding silent written
 well-after d (line l b) w = record { good = good-goes-on d l b (w .good); places = step-places d l b ∙ w .places }
-well-after d (motor axis kind last) w =
-    record { good = report-good d axis (reportOf kind last) (w .good); places = report-places d axis (reportOf kind last) ∙ w .places }
+well-after d (motor axis kind last b) w = by-report (λ s. Well (s .answer .next)) d axis kind last b (λ h. w) (λ h z. reported) reported
+  where
+    reported : Well (Device.report d axis (reportOf kind last) .next)
+    reported = record {
+      good = report-good d axis (reportOf kind last) (w .good);
+      places = report-places d axis (reportOf kind last) ∙ w .places;
+    }
 
 -- any events, any number of them
 pub stays-well : (d : Device) (es : List Event) → Well d → Well (reached d es)

@@ -20,6 +20,7 @@ use Rattle.rules.proofs.HomeUnparks.{homing, home-taken}
 use Rattle.rules.proofs.HomeUnparks as Rules
 use Rattle.reply.specs.Reply.{longestReply}
 use Rattle.carriage.specs.Step.{Stepped, concerns, step}
+use Rattle.carriage.proofs.AnswerRoom.{axes-room}
 use Rattle.carriage.proofs.SpelledIsObeyed.{spelled-is-obeyed, obeyed-number, accepted-line}
 use Rattle.carriage.proofs.MoveGoesWhereAsked.{motions, motions-after}
 
@@ -44,7 +45,7 @@ module _ {l : List ℕ} {a : Asked} (d : Device) (b : List ℕ) (w : Line l a) (
   pub home-is-accepted : good d ≡ true → longestReply ≤ length b → concerns d (a .address) ≡ true → badAxis d (a .axis) ≡ false
       → step d l b .answer .number ≡ 0
   home-is-accepted g room mine there =
-      ap (λ (s : Stepped). s .answer .number) (spelled-is-obeyed d b w g room mine)
+      ap (λ (s : Stepped). s .answer .number) (spelled-is-obeyed d b w g (axes-room c room) mine)
       ∙ obeyed-number d (a .axis) (a .echo) (a .command) b
       ∙ ap (λ (x : Command). obey d (a .axis) x .number) c
       ∙ home-taken d (a .axis) g there

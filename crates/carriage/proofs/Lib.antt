@@ -1,14 +1,17 @@
 pub mod Fits
+pub mod AnswerRoom
+pub mod InfoLines
 pub mod Replies
 pub mod Steps
+pub mod Alerts
 pub mod Heard
 pub mod ReadOnce
 pub mod Rulings
 pub mod Answers
 pub mod Demands
-pub mod GoodForEver
 pub mod SilentNumbers
 pub mod Room
+pub mod GoodForEver
 pub mod SpelledIsObeyed
 pub mod UnspelledIsRefused
 pub mod OutsideNeverMoves
@@ -16,3 +19,5 @@ pub mod MoveGoesWhereAsked
 pub mod HomeUnparks
 pub mod BeyondCount
 pub mod Cases
+pub mod SentCases
+pub mod RefusedReport

@@ -25,6 +25,7 @@ use Rattle.rules.specs.Effects.{obey}
 use Rattle.rules.proofs.OutsideRefused.{inside, outside-refused, outside-11}
 use Rattle.reply.specs.Reply.{longestReply}
 use Rattle.carriage.specs.Step.{Stepped, silent, written, rejected, concerns, step}
+use Rattle.carriage.proofs.AnswerRoom.{axes-room}
 use Rattle.carriage.proofs.SpelledIsObeyed.{spelled-is-obeyed, spelled-answer, obeyed-refused}
 
 -- An answer that does nothing: it has a number, the record d stays, and where there is a reply it is the rejecting one, its data the
@@ -69,7 +70,7 @@ module _ {l : List ℕ} {a : Asked} (t : Target) (d : Device) (b : List ℕ) (w 
       let k = a .axis in
       let n : obey d k (a .command) .number ≡ BADDATA = ap (λ (x : Command). obey d k x .number) c ∙ outside-11 d k t g there p out in
       let z : obey d k (a .command) .number ≡ 0 → ⊥ = λ e. nonzero (sym n ∙ e) in
-      spelled-is-obeyed d b w g room mine ∙ obeyed-refused d k (a .echo) (a .command) b z ∙ ap (λ (x : ℕ). rejected x d k b) n
+      spelled-is-obeyed d b w g (axes-room c room) mine ∙ obeyed-refused d k (a .echo) (a .command) b z ∙ ap (λ (x : ℕ). rejected x d k b) n
     where
       nonzero : _≡_ {A = ℕ} 11 0 → ⊥
       nonzero e = omega arith

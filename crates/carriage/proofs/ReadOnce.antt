@@ -18,6 +18,7 @@ use Rattle.line.specs.Reading.{readLine, carriedBy}
 use Rattle.line.proofs.Carried.{carried-near}
 use Rattle.device.specs.declared.Device.{Device}
 use Rattle.carriage.specs.Step.{silence, respond, step}
+use Rattle.carriage.specs.Rulings.{roomy}
 use Rattle.carriage.specs.ReadOnce.{endWithin, fitting, respondTo, overheard}
 
 -- ---- the end of words that begin at `from`
@@ -34,8 +35,8 @@ module _ (good : Bool) (r : LineRead) (room : ℕ) where
   overheard-small h = rw (lt-ltb room 96 h)
 
   module _ (h : 96 ≤ room) where
-    pub overheard-read : good ≡ true → r ≡ overheard good r room
-    overheard-read g = rw (le-ltb room 96 h, g)
+    pub overheard-read : good ≡ true → {x : LineRead} → x ≡ roomy room r → x ≡ overheard good r room
+    overheard-read g e = rw (le-ltb room 96 h, g) e
 
     pub overheard-bad : good ≡ false → Silent 21 255 ≡ overheard good r room
     overheard-bad g = rw (le-ltb room 96 h, g)

@@ -1,32 +1,39 @@
--- The replies of a good record: their texts, written one behind the other, are the whole reply.
+-- What a good record sends: a text that is written whole is the answer, and none is longer than room is asked for.
 -- Assumes nothing.
 use mathlib.Core.Path.{_≡_, refl, ap, _∙_}
 use mathlib.Core.Logic.{⊎-elim}
-use mathlib.Core.Bool.{Bool, true}
-use mathlib.Core.List.{List, _++_}
+use mathlib.Core.Bool.{Bool, true, false, cond}
+use mathlib.Core.List.{List, [], _++_}
 use Prim.Native.Nat.{ℕ, _+_, _≤_, _<_}
+use native.Mathlib.Nat.{zero-add}
 use native.Mathlib.Omega.{arith}
-use lib.ListN.{length, take, drop}
+use lib.ListN.{length, length-append}
 use borrow.Author.Tests.{le-leb, lt-leb}
-use Rattle.laws.specs.Text.{text}
+use Rattle.laws.specs.Lists.{fold}
 use Rattle.laws.proofs.Order.{lt-or-le}
 use Rattle.command.specs.declared.Command.{Command}
 use Rattle.command.specs.declared.Command.the-variants as Command
+use Rattle.command.specs.Commands.{informs}
+use Rattle.units.specs.Units.{place}
 use Rattle.buffer.specs.Wrote.{Wrote}
+use Rattle.buffer.proofs.Wrote.{wrote-room}
 use Rattle.device.specs.declared.Device.{Device}
 use Rattle.device.specs.Record.{onAxes}
 use Rattle.device.specs.Good.{good}
 use Rattle.rules.specs.Effects.{next}
 use Rattle.rules.proofs.BeyondCount.{after-keeps}
 use Rattle.rules.proofs.GoodStays.{good-count}
-use Rattle.reply.specs.declared.Head.{Head}
-use Rattle.reply.specs.Reply.{body, ending, reply}
-use Rattle.reply.proofs.Room.{reply-done}
+use Rattle.reply.specs.Help.{longestAnswer, infoLines}
+use Rattle.reply.specs.Reply.{longestReply, joined}
+use Rattle.reply.proofs.HelpTexts.{infos-short}
+use Rattle.reply.proofs.Room.{most-data, reply-length, alert-length}
 use Rattle.view.specs.View.{shownAxis, headOf}
 use Rattle.carriage.specs.declared.Answer.{Answer}
 use Rattle.carriage.specs.declared.Heading.{Heading}
 use Rattle.carriage.specs.Rulings.{headingOf}
-use Rattle.carriage.specs.Step.{Replied, Gives, written, wantsSum, replyOf}
+use Rattle.carriage.specs.Report.{alertOf}
+use Rattle.carriage.specs.Step.{Gives, written, wantsSum, replyOf, infosOf, commandRoom}
+use Rattle.carriage.proofs.AnswerRoom.{command-room}
 
 -- the axis that a reply shows is one digit
 pub shown-digit : (d : Device) (k : ℕ) → d .count ≤ 4 → shownAxis d k < 10
@@ -40,20 +47,50 @@ pub head-digit : {h : Heading} (d : Device) (k : ℕ) (ok : Bool) → h ≡ head
 unfolding headOf
 head-digit d k ok e few = rw e (shown-digit d k few)
 
--- three writes make a reply
-module _ (h : Head) (axis : h .axis < 10) (sum : Bool) (words : List ℕ) {b c e f : List ℕ} {p q r : ℕ} where
-  pub replied : length words ≤ 74 → 96 ≤ length b
-      → Wrote b 0 (text "@" ++ body h (text "")) c p → Wrote c p words e q → Wrote e q (ending sum (drop 1 (take q e))) f r
-      → Replied (reply h sum words) b r f
-  replied l room u v w = let k = reply-done h axis sum words l room u v w in record { place = k .1; left = k .0 }
+-- a text that is written whole, from the front of the buffer on, is the answer, beside the number n
+pub wrote-gives : (n : ℕ) (d : Device) (t : List ℕ) {b f : List ℕ} {r : ℕ} → Wrote b 0 t f r → length t ≤ length b → {a : Answer}
+    → a ≡ record { number = n; length = r; next = d } → Gives (written n d t b) a f
+unfolding written
+wrote-gives n d t {b} {f} {r} w h e =
+    let k = wrote-room w (omega arith) in
+    let long : r ≡ length t = rw zero-add at (k .1) in
+    record {
+      result = e ∙ ap (λ (x : ℕ). record { number = n; length = x; next = d }) long;
+      left = rw zero-add at (k .0);
+    }
 
--- a reply of the record d is the answer, beside the number n
-module _ (n : ℕ) (d : Device) (k : ℕ) (ok : Bool) (words : List ℕ) {b f : List ℕ} {r : ℕ} where
-  pub reply-gives : Replied (reply (headOf d k ok) (wantsSum d) words) b r f → {a : Answer}
-      → a ≡ record { number = n; length = r; next = d }
-      → Gives (written n d (replyOf d k ok words) b) a f
-  unfolding written replyOf
-  reply-gives w e = record { result = e ∙ ap (λ (x : ℕ). record { number = n; length = x; next = d }) (w .place); left = w .left }
+-- ---- no message of a good record has more than 96 bytes
+module _ (d : Device) (k : ℕ) (few : d .count ≤ 4) where
+  pub reply-short : (ok : Bool) (words : List ℕ) → length words ≤ 74 → length (replyOf d k ok words) ≤ 96
+  unfolding replyOf headOf
+  reply-short ok words h =
+      reply-length (headOf d k ok) (shown-digit d k few) (wantsSum d) words (omega (arith, most-data (wantsSum d)))
+
+  pub alert-short : length (alertOf d k) ≤ 18
+  unfolding alertOf headOf
+  alert-short = alert-length (headOf d k true) (shown-digit d k few) (wantsSum d)
+
+-- the info lines behind the reply to a command, as the code has them
+pub infos-as : (d : Device) (c : Command) → joined (infosOf d c)
+    ≡ cond (informs c) (joined (infoLines (place (d .comm .address .0)) (wantsSum d))) []
+unfolding infosOf joined fold
+infos-as d c = go (informs c)
+  where
+    go : (t : Bool) → joined (cond t (infoLines (place (d .comm .address .0)) (wantsSum d)) [])
+        ≡ cond t (joined (infoLines (place (d .comm .address .0)) (wantsSum d))) []
+    go true = refl
+    go false = refl
+
+-- the answer to an accepted command, reply and info lines, has no more bytes than room is asked for
+pub answer-short : (d : Device) (k : ℕ) (c : Command) (words : List ℕ) → d .count ≤ 4 → length words ≤ 74
+    → length (replyOf d k true words ++ joined (infosOf d c)) ≤ commandRoom c
+answer-short d k c words few h =
+    rw (length-append, infos-as d c, command-room c) (go (informs c))
+  where
+    go : (t : Bool) → length (replyOf d k true words) + length (cond t (joined (infoLines (place (d .comm .address .0)) (wantsSum d))) [])
+        ≤ cond t longestAnswer longestReply
+    go true = omega (arith, reply-short d k few true words h, infos-short (place (d .comm .address .0)) (wantsSum d))
+    go false = omega (arith, reply-short d k few true words h)
 
 -- a command never changes the axis count
 pub next-count : (d : Device) (k : ℕ) (c : Command) → next d k c .count ≡ d .count

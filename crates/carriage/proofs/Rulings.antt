@@ -1,14 +1,14 @@
 -- What a line comes to, and what was read of it, is answered as the step says; and what holds of a command that meets no refusal.
 -- Assumes nothing.
 use mathlib.Core.Path.{_≡_, refl, sym, ap, subst, _∙_}
-use mathlib.Core.Bool.{Bool, true, false, cond}
+use mathlib.Core.Bool.{Bool, true, false, cond, _&&_}
 use mathlib.Core.List.{List}
 use Prim.Native.Nat.{ℕ, _+_, _≤_}
 use native.Mathlib.Omega.{arith}
 use lib.Dec.{eqb, ltb, leb}
 use lib.ListN.{length, take, drop}
 use borrow.Author.Tests.{eq-eqb, eqb-true, ne-eqb, ltb-true, ltb-false, leb-true}
-use Rattle.laws.proofs.Bools.{not-true, clash}
+use Rattle.laws.proofs.Bools.{and-left, and-right}
 use Rattle.units.specs.Units.{place}
 use Rattle.command.specs.declared.Command.{Command}
 use Rattle.command.specs.declared.kinds.Demands.{Demands}
@@ -27,14 +27,17 @@ use Rattle.device.specs.declared.Device.{Device}
 use Rattle.device.specs.Good.{good}
 use Rattle.rules.specs.declared.refusals.Ruled.{Ruled}
 use Rattle.rules.specs.Refusals.{refusal, ruled}
+use Rattle.reply.specs.Help.{longestAnswer}
+use Rattle.reply.specs.Reply.{longestReply}
 use Rattle.view.specs.Data.{dataOf}
 use Rattle.carriage.specs.declared.Ruling.{Ruling}
 use Rattle.carriage.specs.declared.Ruling.the-variants.{Silent, Rejected, Accepted}
-use Rattle.carriage.specs.Step.{Stepped, silent, rejected, accepted, obeyed, concerns, respond}
+use Rattle.carriage.specs.Step.{Stepped, silent, rejected, accepted, obeyed, concerns, commandRoom, wordsRoom, roomFor, respond}
 use Rattle.carriage.specs.ReadOnce.{endWithin, fitting, overheard}
-use Rattle.carriage.specs.Rulings.{foreign, heardOn, heard, ruleWords, rule}
+use Rattle.carriage.specs.Rulings.{foreign, roomy, heardOn, heard, ruleWords, rule}
 use Rattle.carriage.proofs.Fits.{echo-short, part-short, data-fits}
-use Rattle.carriage.proofs.Steps.{respond-silent, respond-mine, respond-other, respond-not-mine, respond-small, respond-bad}
+use Rattle.carriage.proofs.Steps.{respond-silent, respond-mine, respond-other, respond-not-mine, respond-short, respond-small, respond-bad}
+use Rattle.carriage.proofs.AnswerRoom.{most-room}
 use Rattle.carriage.proofs.Heard.{foreign-is}
 
 -- a ruling on words of which no more are looked at than fit
@@ -59,6 +62,7 @@ module _ (d : Device) (l b : List ℕ) where
   -- a command that is accepted meets no refusal, and its words fit
   pub record Sound (k from end : ℕ) (c : Command) (x : Demands) : Type 0 where
     pub room : 96 ≤ length b
+    pub enough : commandRoom c ≤ length b
     pub good : good d ≡ true
     pub refused : refusal d k c ≡ 0
     pub demanded : x ≡ demands c
@@ -87,56 +91,79 @@ module _ (d : Device) (l b : List ℕ) where
 
   module _ (room : 96 ≤ length b) (g : good d ≡ true) where
     module _ (a k end : ℕ) (h : concerns d a ≡ true) where
-      command-comes : (c : Command) (from : ℕ) → (carriesWords c ≡ true → end ≤ from + 74)
+      command-comes : (c : Command) (from : ℕ) → commandRoom c ≤ length b → (carriesWords c ≡ true → end ≤ from + 74)
           → Comes (Line.Addressed a k end (Words.Command c from)) (ruleWords d k end (Words.Command c from))
       unfolding obeyed
-      command-comes c from near = go (eqb (refusal d k c) 0) refl
+      command-comes c from enough near = go (eqb (refusal d k c) 0) refl
         where
           es : List (List ℕ)
           es = carriedBy c (drop from (take end l))
 
           whole : obeyed d k es c b ≡ respond d l (Line.Addressed a k end (Words.Command c from)) b
-          whole = respond-mine d l b room g a k end (Words.Command c from) h
+          whole = respond-mine d l b room g a k end (Words.Command c from) enough h
 
           go : (t : Bool) → eqb (refusal d k c) 0 ≡ t → Comes (Line.Addressed a k end (Words.Command c from))
               (cond t (Accepted k from end c (demands c)) (Rejected k (refusal d k c)))
           go true e = record {
             answers = ap (λ (t : Bool). cond t (accepted d k es c b) (rejected (refusal d k c) d k b)) (sym e) ∙ whole;
-            fair = record { room = room; good = g; refused = eqb-true (refusal d k c) 0 e; demanded = refl; near = near };
+            fair = record {
+              room = room;
+              enough = enough;
+              good = g;
+              refused = eqb-true (refusal d k c) 0 e;
+              demanded = refl;
+              near = near;
+            };
           }
           go false e = record {
             answers = ap (λ (t : Bool). cond t (accepted d k es c b) (rejected (refusal d k c) d k b)) (sym e) ∙ whole;
             fair = (room, g);
           }
 
-      words-come : (w : WordsRead) → Near (Line.Addressed a k end w) → Comes (Line.Addressed a k end w) (ruleWords d k end w)
-      words-come (Words.Command c from) near = command-comes c from near
-      words-come (Words.Refused m p) near = record { answers = respond-mine d l b room g a k end (Words.Refused m p) h; fair = (room, g) }
+      words-come : (w : WordsRead) → wordsRoom w ≤ length b → Near (Line.Addressed a k end w)
+          → Comes (Line.Addressed a k end w) (ruleWords d k end w)
+      words-come (Words.Command c from) enough near = command-comes c from enough near
+      words-come (Words.Refused m p) enough near =
+          record { answers = respond-mine d l b room g a k end (Words.Refused m p) enough h; fair = (room, g) }
 
-    read-comes : (r : LineRead) → Near r → Comes r (rule d r)
-    read-comes (Line.Silent n p) near = record { answers = respond-silent d l b room g n p; fair = tt }
-    read-comes (Line.Addressed a k end w) near = go (concerns d a) refl
+    read-comes : (r : LineRead) → roomFor r ≤ length b → Near r → Comes r (rule d r)
+    read-comes (Line.Silent n p) enough near = record { answers = respond-silent d l b room g n p; fair = tt }
+    read-comes (Line.Addressed a k end w) enough near = go (concerns d a) refl
       where
         go : (t : Bool) → concerns d a ≡ t → Comes (Line.Addressed a k end w) (cond t (ruleWords d k end w) (Silent 5))
-        go true e = words-come a k end e w near
-        go false e = record { answers = respond-other d l b room g a k end w e; fair = tt }
+        go true e = words-come a k end e w enough near
+        go false e = record { answers = respond-other d l b room g a k end w enough e; fair = tt }
+
+    -- with room for the answer to it, or 20
+    roomy-comes : (r : LineRead) → Near r → Comes r (rule d (roomy (length b) r))
+    roomy-comes r near = go (ltb (length b) (roomFor r)) refl
+      where
+        go : (t : Bool) → ltb (length b) (roomFor r) ≡ t → Comes r (rule d (cond t (Line.Silent 20 255) r))
+        go true e = record { answers = respond-short d l b room g r (ltb-true (length b) (roomFor r) e); fair = tt }
+        go false e = read-comes r (ltb-false (length b) (roomFor r) e) near
 
     -- a line that is read no further than a foreign address
-    foreign-silent : (o : Opening) → foreign (place (d .comm .address .0)) o ≡ true → silent 5 d b ≡ respond d l (readOn l o) b
-    foreign-silent o e = respond-not-mine d l b room g (readOn l o) (foreign-is d l o ∙ e)
+    foreign-silent : (o : Opening) → (leb longestAnswer (length b) && foreign (place (d .comm .address .0)) o) ≡ true
+        → silent 5 d b ≡ respond d l (readOn l o) b
+    foreign-silent o e =
+        let all = leb-true longestAnswer (length b) (and-left (leb longestAnswer (length b)) _ e) in
+        respond-not-mine d l b room g (readOn l o) (omega (arith, most-room (readOn l o)))
+        (foreign-is d l o ∙ and-right (leb longestAnswer (length b)) _ e)
 
     line-near : (r : LineRead) → readLine l ≡ r → Near r
     line-near (Line.Silent n p) e = tt
     line-near (Line.Addressed a k end (Words.Refused m p)) e = tt
     line-near (Line.Addressed a k end (Words.Command c from)) e = carried-near l a k end from c e
 
-    heard-comes : (o : Opening) → readOn l o ≡ readLine l → Comes (readLine l) (rule d (heardOn (place (d .comm .address .0)) l o))
-    heard-comes o q = go (foreign (place (d .comm .address .0)) o) refl
+    heard-comes : (o : Opening) → readOn l o ≡ readLine l
+        → Comes (readLine l) (rule d (heardOn (place (d .comm .address .0)) l (length b) o))
+    heard-comes o q = go (leb longestAnswer (length b) && foreign (place (d .comm .address .0)) o) refl
       where
-        go : (t : Bool) → foreign (place (d .comm .address .0)) o ≡ t
-            → Comes (readLine l) (rule d (cond t (Line.Silent 5 255) (readOn l o)))
+        go : (t : Bool) → (leb longestAnswer (length b) && foreign (place (d .comm .address .0)) o) ≡ t
+            → Comes (readLine l) (rule d (cond t (Line.Silent 5 255) (roomy (length b) (readOn l o))))
         go true e = record { answers = foreign-silent o e ∙ ap (λ (r : LineRead). respond d l r b) q; fair = tt }
-        go false e = subst (λ (r : LineRead). Comes (readLine l) (rule d r)) (sym q) (read-comes (readLine l) (line-near (readLine l) refl))
+        go false e = subst (λ (r : LineRead). Comes (readLine l) (rule d (roomy (length b) r))) (sym q)
+            (roomy-comes (readLine l) (line-near (readLine l) refl))
 
   -- 20, 21, or what comes of a good record and a buffer with room
   unless-shut : (r x : LineRead) (f : Ruling → Ruling) → ((n : ℕ) → f (Silent n) ≡ Silent n)
@@ -179,10 +206,34 @@ module _ (d : Device) (l b : List ℕ) where
   fitting-near (Line.Addressed a k end (Words.Refused m p)) = tt
   fitting-near (Line.Addressed a k end (Words.Command c from)) = λ w. within-near from end
 
+  roomy-fitting : (r : LineRead) → roomy (length b) (fitting r) ≡ fitting (roomy (length b) r)
+  roomy-fitting (Line.Silent n p) = go (ltb (length b) longestReply)
+    where
+      go : (t : Bool) → cond t (Line.Silent 20 255) (Line.Silent n p) ≡ fitting (cond t (Line.Silent 20 255) (Line.Silent n p))
+      go true = refl
+      go false = refl
+  roomy-fitting (Line.Addressed a k end (Words.Refused m p)) = go (ltb (length b) longestReply)
+    where
+      x : LineRead
+      x = Line.Addressed a k end (Words.Refused m p)
+
+      go : (t : Bool) → cond t (Line.Silent 20 255) x ≡ fitting (cond t (Line.Silent 20 255) x)
+      go true = refl
+      go false = refl
+  roomy-fitting (Line.Addressed a k end (Words.Command c from)) = go (ltb (length b) (commandRoom c))
+    where
+      x : LineRead
+      x = Line.Addressed a k end (Words.Command c from)
+
+      go : (t : Bool) → cond t (Line.Silent 20 255) (fitting x) ≡ fitting (cond t (Line.Silent 20 255) x)
+      go true = refl
+      go false = refl
+
   -- and so does what is heard of what was read
   pub comes-once : (r : LineRead) → Comes (fitting r) (fitted (rule d (overheard (good d) r (length b))))
-  comes-once r = unless-shut (fitting r) r fitted (λ n. refl)
-      (λ room g. subst (Comes (fitting r)) (rule-fitted r) (read-comes room g (fitting r) (fitting-near r)))
+  comes-once r = unless-shut (fitting r) (roomy (length b) r) fitted (λ n. refl)
+      (λ room g. subst (Comes (fitting r)) (ap (rule d) (roomy-fitting r) ∙ rule-fitted (roomy (length b) r))
+      (roomy-comes room g (fitting r) (fitting-near r)))
 
 -- the reader's command, where it meets no refusal, and where it meets one
 module _ (d : Device) (k end from : ℕ) (c : Command) {w : WordsRead} (e : w ≡ Words.Command c from) where

@@ -2,11 +2,11 @@
 -- and no other answer is without a reply. Over every record, line and buffer. Assumes nothing.
 use mathlib.Core.Path.{_≡_, refl}
 use mathlib.Core.Bool.{Bool, true, false, cond, not}
-use mathlib.Core.List.{List}
+use mathlib.Core.List.{List, _++_}
 use Prim.Native.Nat.{ℕ, _≤_}
 use native.Mathlib.Omega.{arith}
 use lib.Dec.{eqb}
-use lib.ListN.{length}
+use lib.ListN.{length, take, drop, length-append}
 use Rattle.laws.specs.Refusals.{Refusal, firstOf, NOROOM, BADSTATE, TOOLONG, NOTLINE, BADSUM, BADADDRESS, NOTMINE}
 use Rattle.laws.specs.Text.{text}
 use Rattle.laws.proofs.Bools.{clash}
@@ -14,13 +14,15 @@ use Rattle.laws.proofs.Each.{Each, none, more}
 use Rattle.command.specs.declared.Command.{Command}
 use Rattle.phrase.proofs.WordsNumbered.{Misspelt, bad-command, bad-data}
 use Rattle.line.specs.declared.LineRead.{LineRead}
-use Rattle.line.specs.Reading.{readLine}
+use Rattle.line.specs.Reading.{readLine, carriedBy}
 use Rattle.line.proofs.EveryLine.{Reads, unframed, misaddressed, misspelt, spelled, every-line}
 use Rattle.line.proofs.EveryLine as Line
 use Rattle.device.specs.declared.Device.{Device}
 use Rattle.rules.specs.Refusals.{refusal}
-use Rattle.reply.specs.Reply.{reply}
-use Rattle.carriage.specs.Step.{silent, written, replyOf, rejected, accepted, unread, silence, step}
+use Rattle.rules.specs.Effects.{next}
+use Rattle.reply.specs.Reply.{reply, joined}
+use Rattle.view.specs.Data.{dataOf}
+use Rattle.carriage.specs.Step.{silent, written, replyOf, rejected, infosOf, accepted, unread, silence, step}
 use Rattle.carriage.proofs.Demands.{Unchanged, each-answer}
 
 -- "1 to 5, 20, 21"
@@ -99,7 +101,8 @@ unread-silence (spelled w) e = clash e refl
 silence-number : (d : Device) (l b : List ℕ) → (silence d (readLine l) b ≡ 0 → ⊥) → Silence (silence d (readLine l) b)
 unfolding silence
 silence-number d l b =
-    first-applies Silence (more (λ e. no-room) (more (λ e. bad-state) (more (unread-silence (every-line l)) (more (λ e. not-mine) none))))
+    first-applies Silence (more (λ e. no-room) (more (λ e. bad-state) (more (unread-silence (every-line l))
+    (more (λ e. no-room) (more (λ e. not-mine) none)))))
 
 -- ---- a reply has bytes
 pub reply-some : (d : Device) (k : ℕ) (ok : Bool) (words : List ℕ) → length (replyOf d k ok words) ≡ 0 → ⊥
@@ -124,4 +127,9 @@ no-reply-is-silence d l b =
     (λ h e. silence-number d l b h)
     (λ a k end m p is w g e. absurd (reply-some d k false _ e))
     (λ a k end from c is g h e. absurd (reply-some d k false _ e))
-    (λ a k end from c is g z e. absurd (reply-some _ k true _ e))
+    (λ a k end from c is g z e.
+    let t = replyOf (next d k c) k true (dataOf d k (carriedBy c (drop from (take end l))) c) in
+    absurd (reply-some (next d k c) k true _ (front-none t (joined (infosOf (next d k c) c)) e)))
+  where
+    front-none : (s t : List ℕ) → length (s ++ t) ≡ 0 → length s ≡ 0
+    front-none s t e = omega (arith, length-append s t)

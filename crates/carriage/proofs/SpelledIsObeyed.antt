@@ -5,6 +5,7 @@ use mathlib.Core.Bool.{Bool, true, false, cond}
 use mathlib.Core.List.{List}
 use mathlib.Core.Option.{some}
 use Prim.Native.Nat.{ℕ, _≤_}
+use native.Mathlib.Omega.{arith}
 use lib.Dec.{eqb}
 use lib.ListN.{length, take, drop}
 use borrow.Author.Tests.{eqb-true, eqb-false, ne-eqb}
@@ -21,7 +22,8 @@ use Rattle.device.specs.Good.{good}
 use Rattle.rules.specs.Refusals.{refusal}
 use Rattle.rules.specs.Effects.{next, obey}
 use Rattle.reply.specs.Reply.{longestReply}
-use Rattle.carriage.specs.Step.{Stepped, silent, written, rejected, accepted, obeyed, concerns, silence, respond, step}
+use Rattle.carriage.specs.Step.{Stepped, silent, written, rejected, accepted, obeyed, concerns, commandRoom, silence, respond, step}
+use Rattle.carriage.proofs.AnswerRoom.{command-least}
 use Rattle.carriage.proofs.Steps.{respond-mine, respond-other}
 
 -- what is read of a line l that is written for a: its command, with the words that it carries
@@ -42,15 +44,19 @@ heard : {l : List ℕ} {a : Asked} → Line l a → Heard l (readLine l) a
 unfolding readAsked
 heard {l} {a} w = heard-as l (readLine l) a (demand-3 l a .0 w)
 
--- the record is good, and the buffer has room for a reply
-module _ {l : List ℕ} {a : Asked} (d : Device) (b : List ℕ) (w : Line l a) (g : good d ≡ true) (room : longestReply ≤ length b) where
+-- the record is good, and the buffer has room for the answer
+module _ {l : List ℕ} {a : Asked} (d : Device) (b : List ℕ) (w : Line l a) (g : good d ≡ true)
+    (room : commandRoom (a .command) ≤ length b) where
+  reply-room : longestReply ≤ length b
+  reply-room = omega (arith, command-least (a .command))
+
   -- A line that is written for a command is obeyed as that command, where its address concerns the device.
   pub spelled-is-obeyed : concerns d (a .address) ≡ true → step d l b ≡ obeyed d (a .axis) (a .echo) (a .command) b
   unfolding step
   spelled-is-obeyed h =
       let m = heard w in
       rw (m .read)
-      (sym (respond-mine d l b room g (a .address) (a .axis) (m .end) (Words.Command (a .command) (m .from)) h)
+      (sym (respond-mine d l b reply-room g (a .address) (a .axis) (m .end) (Words.Command (a .command) (m .from)) room h)
       ∙ ap (λ (es : List (List ℕ)). obeyed d (a .axis) es (a .command) b) (m .echo))
 
   -- One for another device is met with silence, whatever its command: record and buffer stay.
@@ -58,7 +64,7 @@ module _ {l : List ℕ} {a : Asked} (d : Device) (b : List ℕ) (w : Line l a) (
   unfolding step
   spelled-elsewhere h =
       let m = heard w in
-      rw (m .read) (sym (respond-other d l b room g (a .address) (a .axis) (m .end) (Words.Command (a .command) (m .from)) h))
+      rw (m .read) (sym (respond-other d l b reply-room g (a .address) (a .axis) (m .end) (Words.Command (a .command) (m .from)) room h))
 
 -- What holds of every silence with a number, and of the command obeyed, holds of the answer to its line: over every record and buffer.
 pub spelled-answer : (P : Stepped → Type 0) {l : List ℕ} {a : Asked} (d : Device) (b : List ℕ) → Line l a

@@ -4,6 +4,7 @@ use mathlib.Core.Path.{_≡_, refl, subst}
 use mathlib.Core.Bool.{Bool, true, false, cond, not}
 use mathlib.Core.List.{List}
 use Prim.Native.Nat.{ℕ, _≤_, _<_}
+use native.Mathlib.Omega.{arith}
 use lib.Dec.{eqb}
 use lib.ListN.{length}
 use borrow.Author.Tests.{lt-ltb, le-ltb}
@@ -15,7 +16,7 @@ use Rattle.line.specs.declared.LineRead.the-variants.{Silent, Addressed}
 use Rattle.device.specs.declared.Device.{Device}
 use Rattle.device.specs.Good.{good}
 use Rattle.carriage.specs.declared.Answer.{Answer}
-use Rattle.carriage.specs.Step.{Stepped, Gives, silent, concerns, addressed, notMine, silence, respond}
+use Rattle.carriage.specs.Step.{Stepped, Gives, silent, concerns, addressed, notMine, wordsRoom, roomFor, silence, respond}
 
 pub gives-as : {s t : Stepped} {r : Answer} {c : List ℕ} → s ≡ t → Gives s r c → Gives t r c
 gives-as {r = r} {c = c} e g = subst (λ (x : Stepped). Gives x r c) e g
@@ -32,22 +33,30 @@ module _ (d : Device) (l b : List ℕ) (room : 96 ≤ length b) (g : good d ≡ 
   respond-silent n p = rw (le-ltb (length b) 96 room, g) (go (eqb n 0) refl)
     where
       go : (t : Bool) → eqb n 0 ≡ t
-          → silent n d b ≡ cond (eqb (cond (not t) n (cond false 5 0)) 0) (silent n d b) (silent (cond (not t) n (cond false 5 0)) d b)
+          → silent n d b ≡ cond (eqb (cond (not t) n (cond false 20 (cond false 5 0))) 0) (silent n d b)
+          (silent (cond (not t) n (cond false 20 (cond false 5 0))) d b)
       go true e = refl
       go false e = rw e
 
-  module _ (a k end : ℕ) (w : WordsRead) where
+  -- and room for the answer to these words
+  module _ (a k end : ℕ) (w : WordsRead) (enough : wordsRoom w ≤ length b) where
     pub respond-mine : concerns d a ≡ true → addressed d l k end w b ≡ respond d l (Addressed a k end w) b
     unfolding respond silence firstOf
-    respond-mine h = rw (le-ltb (length b) 96 room, g, h)
+    respond-mine h = rw (le-ltb (length b) 96 room, g, le-ltb (length b) (wordsRoom w) enough, h)
 
     pub respond-other : concerns d a ≡ false → silent 5 d b ≡ respond d l (Addressed a k end w) b
     unfolding respond silence firstOf
-    respond-other h = rw (le-ltb (length b) 96 room, g, h)
+    respond-other h = rw (le-ltb (length b) 96 room, g, le-ltb (length b) (wordsRoom w) enough, h)
 
-  pub respond-not-mine : (r : LineRead) → notMine d r ≡ true → silent 5 d b ≡ respond d l r b
-  respond-not-mine (Silent n p) h = clash h refl
-  respond-not-mine (Addressed a k end w) h = respond-other a k end w (not-true (concerns d a) h)
+  pub respond-not-mine : (r : LineRead) → roomFor r ≤ length b → notMine d r ≡ true → silent 5 d b ≡ respond d l r b
+  respond-not-mine (Silent n p) enough h = clash h refl
+  respond-not-mine (Addressed a k end w) enough h = respond-other a k end w enough (not-true (concerns d a) h)
+
+  -- or none for it
+  pub respond-short : (r : LineRead) → length b < roomFor r → silent 20 d b ≡ respond d l r b
+  unfolding respond silence firstOf
+  respond-short (Silent n p) h = absurd (omega arith)
+  respond-short (Addressed a k end w) h = rw (le-ltb (length b) 96 room, g, lt-ltb (length b) (wordsRoom w) h)
 
 -- no room, or a record that is not good
 module _ (d : Device) (l : List ℕ) (r : LineRead) (b : List ℕ) where

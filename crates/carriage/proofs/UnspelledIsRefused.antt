@@ -69,8 +69,8 @@ module _ {l : List ℕ} (d : Device) (b : List ℕ) where
     heard-refused (misspelt {m = m} {p = p} {n = n} {k = k} {end = end} c h none x) = go (concerns d n) refl
       where
         go : (t : Bool) → concerns d n ≡ t → Refused d (respond d l (Addressed n k end (WordsRead.Refused m p)) b)
-        go true e = answers (respond-mine d l b room g n k end _ e) (aloud d b k (of-words x))
-        go false e = answers (respond-other d l b room g n k end _ e) (quiet d b not-mine)
+        go true e = answers (respond-mine d l b room g n k end _ room e) (aloud d b k (of-words x))
+        go false e = answers (respond-other d l b room g n k end _ room e) (quiet d b not-mine)
     heard-refused (spelled w) = absurd (unwritten _ w)
 
   -- A line that is written for no command is refused, and the record stays as it was.

@@ -20,6 +20,7 @@ use Rattle.device.specs.Record as StateRecord
 use Rattle.rules.specs.Effects as DeviceEffects
 use Rattle.rules.specs.Refusals as DeviceRefusals
 use Rattle.reply.specs.Data as Data
+use Rattle.reply.specs.Help as Help
 use Rattle.reply.specs.Reply as Reply
 use Rattle.view.specs.View as View
 use Rattle.view.specs.Data as ShownData
@@ -68,7 +69,8 @@ unfolding Data.values Data.warningsIn Data.warningList Data.echoed Data.refusals
 openData = 0
 
 unfoldable openReply : ℕ
-unfolding Reply.verdict Reply.status Reply.highest Reply.body Reply.ending Reply.reply
+unfolding Reply.verdict Reply.status Reply.highest Reply.body Reply.ending Reply.reply Reply.infoBody Reply.info Reply.joined Help.helpTexts
+    Help.infoLines
 openReply = 0
 
 unfoldable openView : ℕ
@@ -80,8 +82,8 @@ unfolding ShownData.parkedData ShownData.dataOf
 openShown = 0
 
 unfoldable openStep : ℕ
-unfolding Step.silent Step.written Step.wantsSum Step.replyOf Step.rejected Step.accepted Step.obeyed Step.concerns Step.silence
-    Step.respond Step.step
+unfolding Step.silent Step.written Step.wantsSum Step.replyOf Step.rejected Step.infosOf Step.accepted Step.obeyed Step.concerns
+    Step.silence Step.respond Step.step
 openStep = 0
 
 unfoldable pub answering : ℕ

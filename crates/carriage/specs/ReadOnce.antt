@@ -11,6 +11,7 @@ use Rattle.line.specs.declared.LineRead.the-variants.{Silent, Addressed}
 use Rattle.device.specs.declared.Device.{Device}
 use Rattle.reply.specs.Reply.{longestReply}
 use Rattle.carriage.specs.Step.{Stepped, respond}
+use Rattle.carriage.specs.Rulings.{roomy}
 
 -- as many bytes of words as every reply has room for: 96, less its head, its sum and its end. No line carries more
 abbrev pub mostWords : ℕ
@@ -30,4 +31,4 @@ respondTo d l r b = respond d l (fitting r) b
 
 -- what a device hears of it: 20 or 21 where there is no room for a reply, or its record is not good
 abbrev pub overheard : Bool → LineRead → ℕ → LineRead
-overheard good r room = cond (ltb room longestReply) (Silent NOROOM NOWHERE) (cond good r (Silent BADSTATE NOWHERE))
+overheard good r room = cond (ltb room longestReply) (Silent NOROOM NOWHERE) (cond good (roomy room r) (Silent BADSTATE NOWHERE))

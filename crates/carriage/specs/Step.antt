@@ -1,14 +1,15 @@
 -- What a line makes of a record and a buffer: number, length, next record and every byte. Document 01's table of refusals
--- in its order: 20, 21, 2, 1, 3, 4, 5 (silence), 10, 11 (the reader), 12, 13, 14, 15, 16, 11 (the device).
+-- in its order: 20, 21, 2, 1, 3, 4, 20 (of order 5), 5 (silence), 10, 11 (the reader), 12, 13, 14, 15, 16, 11 (the device).
 use mathlib.Core.Path.{_≡_}
 use mathlib.Core.Bool.{Bool, true, false, cond, not, _&&_, _||_}
 use mathlib.Core.List.{List, [], _∷_, _++_}
-use Prim.Native.Nat.{ℕ}
+use Prim.Native.Nat.{ℕ, suc, _*_}
 use lib.Dec.{eqb, ltb}
 use lib.ListN.{length, take, drop}
 use Rattle.laws.specs.Refusals.{_when_, firstOf, NOROOM, BADSTATE, NOTMINE, NOWHERE}
 use Rattle.units.specs.Units.{place}
 use Rattle.command.specs.declared.Command.{Command}
+use Rattle.command.specs.Commands.{informs}
 use Rattle.phrase.specs.declared.WordsRead.{WordsRead}
 use Rattle.phrase.specs.declared.WordsRead.the-variants as Words
 use Rattle.line.specs.declared.LineRead.{LineRead}
@@ -19,7 +20,8 @@ use Rattle.device.specs.Good.{good}
 use Rattle.rules.specs.Refusals.{refusal}
 use Rattle.rules.specs.Effects.{next}
 use Rattle.reply.specs.Data.{refusalName}
-use Rattle.reply.specs.Reply.{longestReply, reply}
+use Rattle.reply.specs.Help.{helpTexts, infoLines}
+use Rattle.reply.specs.Reply.{longestReply, reply, joined}
 use Rattle.view.specs.View.{headOf}
 use Rattle.carriage.specs.declared.Answer.{Answer}
 use Rattle.view.specs.Data.{dataOf}
@@ -37,11 +39,6 @@ silent n d b = record { answer = record { number = n; length = 0; next = d }; bu
 unfoldable pub written : ℕ → Device → List ℕ → List ℕ → Stepped
 written n d t b = record { answer = record { number = n; length = length t; next = d }; buffer = t ++ drop (length t) b }
 
--- a reply t at the front of a buffer b: what a writer answers, and what it leaves
-pub record Replied (t b : List ℕ) (r : ℕ) (c : List ℕ) : Type 0 where
-  pub place : r ≡ length t
-  pub left : c ≡ t ++ drop (length t) b
-
 -- "`:CC` ... if comm.checksum is 1"
 unfoldable pub wantsSum : Device → Bool
 wantsSum d = eqb (place (d .comm .checksum .0)) 1
@@ -53,9 +50,14 @@ replyOf d k ok words = reply (headOf d k ok) (wantsSum d) words
 unfoldable pub rejected : ℕ → Device → ℕ → List ℕ → Stepped
 rejected n d k b = written n d (replyOf d k false (refusalName n)) b
 
--- "A reply describes the record after the command."
+-- 02, order 5: "`help commands` ... answers 0 and one info line each"
+unfoldable pub infosOf : Device → Command → List (List ℕ)
+infosOf d c = cond (informs c) (infoLines (place (d .comm .address .0)) (wantsSum d)) []
+
+-- "A reply describes the record after the command." Info lines stand behind it
 unfoldable pub accepted : Device → ℕ → List (List ℕ) → Command → List ℕ → Stepped
-accepted d k es c b = written 0 (next d k c) (replyOf (next d k c) k true (dataOf d k es c)) b
+accepted d k es c b =
+    written 0 (next d k c) (replyOf (next d k c) k true (dataOf d k es c) ++ joined (infosOf (next d k c) c)) b
 
 -- a command for axis k, with the words es of an echo
 unfoldable pub obeyed : Device → ℕ → List (List ℕ) → Command → List ℕ → Stepped
@@ -74,13 +76,27 @@ abbrev pub notMine : Device → LineRead → Bool
 notMine d (Silent n p) = false
 notMine d (Addressed n k end w) = not (concerns d n)
 
--- "Checks run in the table's order and the first that applies wins."
+-- 02, order 5: "96 bytes for the reply and for each info line", whatever becomes of the command; to what is none a reply is the answer
+abbrev pub commandRoom : Command → ℕ
+commandRoom c = longestReply * cond (informs c) (suc (length helpTexts)) 1
+
+abbrev pub wordsRoom : WordsRead → ℕ
+wordsRoom (Words.Refused m p) = longestReply
+wordsRoom (Words.Command c from) = commandRoom c
+
+abbrev pub roomFor : LineRead → ℕ
+roomFor (Silent n p) = longestReply
+roomFor (Addressed n k end w) = wordsRoom w
+
+-- "Checks run in the table's order and the first that applies wins." And order 5: "NOROOM for `help commands`, once the line has read and
+-- before 5"
 unfoldable pub silence : Device → LineRead → List ℕ → ℕ
 silence d r b =
     firstOf
     (NOROOM when ltb (length b) longestReply
     ∷ BADSTATE when not (good d)
     ∷ unread r when not (eqb (unread r) 0)
+    ∷ NOROOM when ltb (length b) (roomFor r)
     ∷ NOTMINE when notMine d r
     ∷ [])
 

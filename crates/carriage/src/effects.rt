@@ -57,6 +57,7 @@ fn after(d: Device, c: DeviceCommand) -> Device
         DeviceCommand::Park => with_parked(d, true),
         DeviceCommand::Unpark => with_parked(d, false),
         DeviceCommand::Echo => d,
+        DeviceCommand::Help => d,
     }
 }
 

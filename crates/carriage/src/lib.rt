@@ -1,19 +1,23 @@
-// A line, a record and a buffer in; number, length and next record out, and the reply in the buffer.
-// specs/Step.antt says what a line makes of a record, for every record, line and buffer.
+// A line or a motor report, a record and a buffer in; number, length and next record out, and what is sent in the buffer.
+// specs/Step.antt says what a line makes of a record, for every record, line and buffer, and specs/Report.antt what a report does.
 ghost use mathlib.Core.Path.{_≡_};
-ghost use Prim.Native.Nat.{_≤_, _<_};
+ghost use mathlib.Core.Bool.{cond};
+ghost use mathlib.Core.List.{[], _++_};
+ghost use Prim.Native.Nat.{_+_, _≤_, _<_};
 ghost use lib.ListN.{length};
-ghost use Rattle.reply.specs.Reply.{longestReply, reply as replyText};
-ghost use Rattle.reply.specs.Told.{toldText};
-ghost use Rattle.carriage.specs.Report.{report as reportOf};
-ghost use Rattle.carriage.specs.Step.{Replied, Gives, concerns as concernsOf, step as stepOf, refusedAt};
+ghost use Rattle.buffer.specs.Wrote.{Wrote};
+ghost use Rattle.reply.specs.Help.{helpText, longestAnswer, longestInfos, infoLines};
+ghost use Rattle.reply.specs.Reply.{longestReply, joined, reply as replyText, alert as alertText, info as infoText};
+ghost use Rattle.reply.specs.Told.{toldText, informs};
+ghost use Rattle.carriage.specs.Report.{alertWanted, report as reportOf};
+ghost use Rattle.carriage.specs.Step.{Gives, concerns as concernsOf, wordsRoom, roomFor, step as stepOf, refusedAt};
 ghost use Rattle.carriage.specs.ReadOnce.{endWithin, overheard, respondTo};
-ghost use Rattle.carriage.specs.Rulings.{foreign as foreignTo, heard, headingOf, ruleWords, rule as ruleOf};
+ghost use Rattle.carriage.specs.Rulings.{foreign as foreignTo, roomy, heard, headingOf, ruleWords, rule as ruleOf};
 use crate::effects::next;
+use axis::reports::Report;
 use command::Command;
 use command::kinds::Demands;
 use device::Device;
-use device::Outcome;
 use laws::ACCEPTED;
 use laws::BADSTATE;
 use laws::NOROOM;
@@ -23,7 +27,9 @@ use line::LineRead;
 use line::Opening;
 use phrase::WordsRead;
 use reply::Head;
+use reply::LONGEST_ANSWER;
 use reply::LONGEST_REPLY;
+use reply::help::HELP_TEXTS;
 use reply::put_end;
 use reply::put_head;
 use reply::told::Told;
@@ -74,7 +80,49 @@ fn foreign(own: u64, o: Opening) -> bool
     }
 }
 
-// What a device of this address hears of a line: no more than its address, where that is another's.
+// How many bytes the answer to a command's words may take: a reply's, and each info line's.
+fn words_room(w: WordsRead) -> usize
+    ensures { λ x. ⌜ x ≡ wordsRoom w ⌝ }
+{
+    match w {
+        WordsRead::Refused(_, _) => LONGEST_REPLY,
+        WordsRead::Command(c, _) => {
+            let x = c.form().demands();
+            let shown = x.reply;
+            if shown.informs() {
+                LONGEST_ANSWER
+            } else {
+                LONGEST_REPLY
+            }
+        }
+    }
+}
+
+// And the answer to what was read.
+pub fn room_for(r: LineRead) -> usize
+    ensures { λ x. ⌜ x ≡ roomFor r ⌝ }
+{
+    match r {
+        LineRead::Silent(_, _) => LONGEST_REPLY,
+        LineRead::Addressed(_, _, _, w) => words_room(w),
+    }
+}
+
+// What was read, where there is room for the answer to it. A buffer with room for every answer is asked for first, since then nothing
+// is looked up.
+fn with_room(r: LineRead, room: usize) -> LineRead
+    ensures { λ x. ⌜ x ≡ roomy room r ⌝ }
+{
+    if LONGEST_ANSWER <= room {
+        return r;
+    }
+    if room < room_for(r) {
+        return LineRead::Silent(NOROOM, NOWHERE);
+    }
+    r
+}
+
+// What a device of this address hears of a line: no more than its address, where that is another's and there is room for every answer.
 fn hear(own: u64, good: bool, line: &[u8], room: usize) -> LineRead
     ensures { λ r. ⌜ r ≡ heard own good (now (line .entry)) room ⌝ }
 {
@@ -85,10 +133,10 @@ fn hear(own: u64, good: bool, line: &[u8], room: usize) -> LineRead
         return LineRead::Silent(BADSTATE, NOWHERE);
     }
     let o = line::reading::open_line(line);
-    if foreign(own, o) {
+    if (LONGEST_ANSWER <= room) & foreign(own, o) {
         return LineRead::Silent(NOTMINE, NOWHERE);
     }
-    line::reading::read_line(line, o)
+    with_room(line::reading::read_line(line, o), room)
 }
 
 // Is it sent to all, or to this device?
@@ -124,7 +172,7 @@ pub fn refused_at(d: Device, line: &[u8]) -> u8
     ensures { λ r. ⌜ r ≡ refusedAt d (now (line .entry)) ⌝ }
 {
     let own = d.comm.address.place() as u64;
-    hear(own, d.good(), line, LONGEST_REPLY).place()
+    hear(own, d.good(), line, LONGEST_ANSWER).place()
 }
 
 // What was read comes to this for the record.
@@ -146,11 +194,48 @@ pub fn rule(d: Device, r: LineRead) -> Ruling
 // A reply: what it tells may stand in the line.
 fn put_reply(h: Heading, x: Told, line: &[u8], reply: &mut [u8]) -> usize
     requires { ⌜ (longestReply ≤ length (now reply)) × (h .head .axis < 10) × (length (toldText (now line) x) ≤ 74) ⌝ }
-    ensures { λ r. ⌜ Replied (replyText (h .head) (h .sum) (toldText (now (line .entry)) x)) (now (reply .entry)) r (now (reply .exit)) ⌝ }
+    ensures { λ r. ⌜ Wrote (now (reply .entry)) 0 (replyText (h .head) (h .sum) (toldText (now (line .entry)) x)) (now (reply .exit)) r ⌝ }
 {
     let data = put_head(reply, 0, h.head);
     let end = put_told(reply, data, x, line);
     put_end(reply, end, h.sum)
+}
+
+// The info line of a place of the texts, from a place of the buffer on.
+fn put_info(buf: &mut [u8], at: usize, address: u64, sum: bool, place: usize) -> usize
+    requires { ⌜ at + longestReply ≤ length (now buf) ⌝ }
+    ensures { λ r. ⌜ Wrote (now (buf .entry)) at (infoText address 0 sum (helpText place)) (now (buf .exit)) r ⌝ }
+{
+    let line = &mut buf[at..];
+    let end = reply::put_info(line, 0, address, place);
+    at + put_end(line, end, sum)
+}
+
+// All info lines, one behind the other.
+fn put_infos(buf: &mut [u8], at: usize, address: u64, sum: bool) -> usize
+    requires { ⌜ at + longestInfos ≤ length (now buf) ⌝ }
+    ensures { λ r. ⌜ Wrote (now (buf .entry)) at (joined (infoLines address sum)) (now (buf .exit)) r ⌝ }
+{
+    let mut next = at;
+    let mut i: usize = 0;
+    while i < HELP_TEXTS {
+        next = put_info(buf, next, address, sum, i);
+        i += 1;
+    }
+    next
+}
+
+// The reply to an accepted command, and the info lines behind it.
+fn put_answer(h: Heading, x: Told, line: &[u8], reply: &mut [u8]) -> usize
+    requires { ⌜ (cond (informs x) longestAnswer longestReply ≤ length (now reply)) × (h .head .axis < 10) × (length (toldText (now line) x) ≤ 74) ⌝ }
+    ensures { λ r. ⌜ Wrote (now (reply .entry)) 0 (replyText (h .head) (h .sum) (toldText (now (line .entry)) x) ++ cond (informs x) (joined (infoLines (h .head .address) (h .sum))) []) (now (reply .exit)) r ⌝ }
+{
+    let end = put_reply(h, x, line, reply);
+    if x.informs() {
+        put_infos(reply, end, h.head.address, h.sum)
+    } else {
+        end
+    }
 }
 
 // What a line makes of a record and a buffer. What a reply tells is taken from the record before it changes. The record changes
@@ -176,7 +261,7 @@ pub fn step(mut d: Device, line: &[u8], reply: &mut [u8]) -> Answer
             if !x.shows {
                 d = next(d, k, c);
             }
-            length = put_reply(heading_of(d, k, true), told, line, reply);
+            length = put_answer(heading_of(d, k, true), told, line, reply);
         }
     }
     Answer {
@@ -194,7 +279,7 @@ fn overhear(good: bool, read: LineRead, rest: usize) -> LineRead
         return LineRead::Silent(NOROOM, NOWHERE);
     }
     if good {
-        read
+        with_room(read, rest)
     } else {
         LineRead::Silent(BADSTATE, NOWHERE)
     }
@@ -234,7 +319,7 @@ pub fn respond(mut d: Device, r: LineRead, line: &[u8], reply: &mut [u8]) -> Ans
             if !x.shows {
                 d = next(d, k, c);
             }
-            length = put_reply(heading_of(d, k, true), told, line, reply);
+            length = put_answer(heading_of(d, k, true), told, line, reply);
         }
     }
     Answer {
@@ -244,11 +329,45 @@ pub fn respond(mut d: Device, r: LineRead, line: &[u8], reply: &mut [u8]) -> Ans
     }
 }
 
-// What a motor report makes of a record.
-pub fn report(d: Device, axis: Number, kind: Number, last: Number) -> Outcome
-    ensures { λ r. ⌜ r ≡ reportOf d axis kind last ⌝ }
+// An alert of the record and axis that the heading is of.
+fn put_alert(h: Heading, alert: &mut [u8]) -> usize
+    requires { ⌜ (longestReply ≤ length (now alert)) × (h .head .axis < 10) ⌝ }
+    ensures { λ r. ⌜ Wrote (now (alert .entry)) 0 (alertText (h .head) (h .sum)) (now (alert .exit)) r ⌝ }
 {
-    rules::reports::report(d, axis, axis::reports::report_of(kind, last))
+    let end = reply::put_alert(alert, 0, h.head);
+    put_end(alert, end, h.sum)
+}
+
+// Is an alert due for a report that came to this number, where comm.alert is so?
+fn alert_wanted(number: u8, r: Report, alert: Number) -> bool
+    ensures { λ x. ⌜ x ≡ alertWanted number r alert ⌝ }
+{
+    (number == 0) & axis::reports::rests(r) & (alert.place() == 1)
+}
+
+// What a motor report makes of a record and of a buffer, in which its alert stands, if one is due.
+pub fn report(d: Device, axis: Number, kind: Number, last: Number, alert: &mut [u8]) -> Answer
+    ensures { λ r. ⌜ Gives (reportOf d axis kind last (now (alert .entry))) r (now (alert .exit)) ⌝ }
+{
+    if alert.len() < LONGEST_REPLY {
+        return Answer {
+            number: NOROOM,
+            length: 0,
+            next: d,
+        };
+    }
+    let r = axis::reports::report_of(kind, last);
+    let o = rules::reports::report(d, axis, r);
+    let next = o.next;
+    let mut length: usize = 0;
+    if alert_wanted(o.number, r, next.comm.alert) {
+        length = put_alert(heading_of(next, axis.place() as u64, true), alert);
+    }
+    Answer {
+        number: o.number,
+        length,
+        next,
+    }
 }
 
 mod effects;

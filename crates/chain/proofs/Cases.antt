@@ -1,5 +1,5 @@
 -- Lines to the four devices of the program `cable`, two of them of one address, and to chains that are refused, as one table: the records,
--- the line, the room, the number and each place's reply. Over the very definitions that `chain` promises, by computation.
+-- the line, the room, the number and each place's answer. Over the very definitions that `chain` promises, by computation.
 use mathlib.Core.Path.{_≡_, refl}
 use mathlib.Core.List.{List, [], _∷_, map}
 use Prim.Native.Nat.{ℕ}
@@ -9,10 +9,12 @@ use lib.ListN.{replicate}
 use Rattle.laws.specs.Text.{text}
 use Rattle.laws.specs.Refusals.{ACCEPTED, NOTLINE, TOOLONG, BADSUM, BADADDRESS, NOTMINE, NOROOM, BADSTATE}
 use Rattle.units.specs.Units.{number}
+use Rattle.phrase.specs.Reading.{readHelp}
 use Rattle.device.specs.declared.Device.{Device}
 use Rattle.device.specs.Record.{fresh}
+use Rattle.reply.specs.Reply.{joined}
 use Rattle.carriage.specs.Open.{answering}
-use Rattle.chain.specs.Chain.{blank, nextOf, textOf, numberOf, refusal, chain, joined}
+use Rattle.chain.specs.Chain.{blank, nextOf, textOf, numberOf, refusal, refusalOf, chain}
 
 -- address, how many axes, device id
 abbrev device : ℕ → ℕ → ℕ → Device
@@ -34,10 +36,36 @@ pub record Case : Type 0 where
   pub line : String
   pub room : ℕ
   pub number : ℕ
-  pub replies : List String
+  pub answers : List (List ℕ)
 
 abbrev case : List Device → String → ℕ → ℕ → List String → Case
-case xs l b n rs = record { devices = xs; line = l; room = b; number = n; replies = rs }
+case xs l b n ts = record { devices = xs; line = l; room = b; number = n; answers = map text ts }
+
+-- the same where an answer is several messages, one behind the other
+abbrev told : List Device → String → ℕ → List (List String) → Case
+told xs l b tss = record { devices = xs; line = l; room = b; number = ACCEPTED; answers = map (λ ts. joined (map text ts)) tss }
+
+-- the answers to `help commands` of devices 1, 2 and 9
+abbrev helped1 : List String
+helped1 =
+    "@01 0 OK IDLE WR 0:3E\r\n" ∷ "#01 0 home:86\r\n" ∷ "#01 0 stop:69\r\n" ∷ "#01 0 estop:04\r\n"
+    ∷ "#01 0 move:78\r\n" ∷ "#01 0 get:EF\r\n" ∷ "#01 0 set:E3\r\n" ∷ "#01 0 tools storepos:5F\r\n"
+    ∷ "#01 0 warnings:C6\r\n" ∷ "#01 0 tools parking:F2\r\n" ∷ "#01 0 tools echo:3F\r\n" ∷ "#01 0 help commands:14\r\n"
+    ∷ []
+
+abbrev helped2 : List String
+helped2 =
+    "@02 0 OK IDLE WR 0:3D\r\n" ∷ "#02 0 home:85\r\n" ∷ "#02 0 stop:68\r\n" ∷ "#02 0 estop:03\r\n"
+    ∷ "#02 0 move:77\r\n" ∷ "#02 0 get:EE\r\n" ∷ "#02 0 set:E2\r\n" ∷ "#02 0 tools storepos:5E\r\n"
+    ∷ "#02 0 warnings:C5\r\n" ∷ "#02 0 tools parking:F1\r\n" ∷ "#02 0 tools echo:3E\r\n" ∷ "#02 0 help commands:13\r\n"
+    ∷ []
+
+abbrev helped9 : List String
+helped9 =
+    "@09 0 OK IDLE WR 0:36\r\n" ∷ "#09 0 home:7E\r\n" ∷ "#09 0 stop:61\r\n" ∷ "#09 0 estop:FC\r\n"
+    ∷ "#09 0 move:70\r\n" ∷ "#09 0 get:E7\r\n" ∷ "#09 0 set:DB\r\n" ∷ "#09 0 tools storepos:57\r\n"
+    ∷ "#09 0 warnings:BE\r\n" ∷ "#09 0 tools parking:EA\r\n" ∷ "#09 0 tools echo:37\r\n" ∷ "#09 0 help commands:0C\r\n"
+    ∷ []
 
 abbrev nothing : List String
 nothing = "" ∷ "" ∷ "" ∷ "" ∷ []
@@ -72,25 +100,37 @@ cases =
     ∷ case (replicate 16 (device 1 2 100)) "/5 home\n" 1536 NOTMINE (replicate 16 "")
     ∷ case spoilt "home\n" 192 BADSTATE []
     ∷ case spoilt "home\n" 191 NOROOM []
+    -- order 5: a reply and its info lines, device by device; 96 bytes for each of them, times the records, whomever the line concerns
+    ∷ told cable "/help commands\n" 4608 (helped1 ∷ helped2 ∷ helped1 ∷ helped9 ∷ [])
+    ∷ told cable "/2 0 help commands\n" 4608 ([] ∷ helped2 ∷ [] ∷ [] ∷ [])
+    ∷ case cable "/help commands\n" 4607 NOROOM []
+    ∷ case cable "/2 help commands\n" 4607 NOROOM []
+    ∷ case cable "/5 help commands\n" 4607 NOROOM []
+    ∷ case cable "/5 help commands\n" 4608 NOTMINE nothing
+    ∷ case cable "/2 3 help commands\n" 4607 NOROOM []
+    ∷ case cable "/2 3 help commands\n" 4608 ACCEPTED ("" ∷ "@02 0 RJ IDLE WR BADAXIS:6F\r\n" ∷ "" ∷ "" ∷ [])
+    ∷ case cable "/2 help\n" 384 ACCEPTED ("" ∷ "@02 0 RJ IDLE WR BADDATA:8A\r\n" ∷ "" ∷ "" ∷ [])
+    ∷ case cable "/1 home:00\n" 4607 BADSUM nothing
+    ∷ case spoilt "/help commands\n" 192 BADSTATE []
     ∷ []
 
--- the number, and the bytes of each place's reply
+-- the number, and the bytes of each place's answer
 pub record Said : Type 0 where
   pub number : ℕ
-  pub replies : List (List ℕ)
+  pub answers : List (List ℕ)
 
 unfoldable pub said : Case → Said
 said c =
-    let s = chain (c .devices) (text (c .line)) (c .room) in record { number = s .number; replies = s .replies }
+    let s = chain (c .devices) (text (c .line)) (c .room) in record { number = s .number; answers = s .answers }
 
 unfoldable pub wanted : Case → Said
-wanted c = record { number = c .number; replies = map text (c .replies) }
+wanted c = record { number = c .number; answers = c .answers }
 
 pub all-cases : map said cases ≡ map wanted cases
-unfolding answering cable spoilt blank nextOf textOf numberOf refusal chain cases said wanted
+unfolding answering cable spoilt blank nextOf textOf numberOf refusal refusalOf chain cases said wanted joined readHelp
 all-cases = refl
 
 -- "Replies follow in chain order": the bytes that a call leaves
-pub in-order : joined (chain cable (text "/1 get deviceid\n") 384 .replies) ≡ text "@01 0 OK IDLE WR 100:DD\r\n@01 0 OK IDLE WR 102:DB\r\n"
-unfolding answering cable blank nextOf textOf numberOf refusal chain joined
+pub in-order : joined (chain cable (text "/1 get deviceid\n") 384 .answers) ≡ text "@01 0 OK IDLE WR 100:DD\r\n@01 0 OK IDLE WR 102:DB\r\n"
+unfolding answering cable blank nextOf textOf numberOf refusal refusalOf chain joined
 in-order = refl

@@ -5,7 +5,7 @@ use mathlib.Core.Bool.{Bool, true, false, cond, not, _&&_}
 use mathlib.Core.List.{List, [], _∷_, _++_, map, append-assoc}
 use Prim.Native.Nat.{ℕ, _+_, _*_, _<_, _≤_}
 use native.Mathlib.Omega.{arith}
-use native.Mathlib.Nat.{zero-add, add-zero, add-assoc}
+use native.Mathlib.Nat.{zero-add, add-zero, add-assoc, mul-le-mul}
 use lib.Dec.{eqb, ltb}
 use lib.ListN.{length, take, drop, length-append, length-drop, take-append-drop}
 use lib.Seq.{take-at, drop-at, drop-drop, length-take-le}
@@ -23,13 +23,16 @@ use Rattle.line.specs.Opening.{openLine, readOn}
 use Rattle.line.proofs.Opened.{opened-read}
 use Rattle.device.specs.declared.Device.{Device}
 use Rattle.device.specs.Good.{good}
-use Rattle.carriage.specs.Step.{Stepped, written, unread, notMine, concerns}
+use Rattle.reply.specs.Help.{longestAnswer}
+use Rattle.reply.specs.Reply.{joined}
+use Rattle.carriage.specs.Step.{Stepped, written, notMine, concerns, roomFor}
 use Rattle.carriage.specs.ReadOnce.{respondTo}
+use Rattle.carriage.proofs.AnswerRoom.{most-room}
 use Rattle.carriage.proofs.ReadOnce.{read-once}
 use Rattle.chain.specs.declared.Pass.{Pass}
 use Rattle.chain.specs.declared.Told.{Told}
 use Rattle.chain.specs.Walk.{heeds, Taken, taken, Run, run, Walked, begun, told}
-use Rattle.chain.specs.Chain.{nextOf, textOf, numberOf, refusal, refused, answers, refuses, chain, joined, Gives}
+use Rattle.chain.specs.Chain.{nextOf, textOf, numberOf, refusal, refusalOf, refused, responds, refuses, chain, Gives}
 use Rattle.chain.proofs.Alone.{alone, text-short, quiet-next, quiet-text, aloud-text}
 use Rattle.chain.proofs.Walks.{taken-obeyed, taken-idle}
 
@@ -72,11 +75,12 @@ module _ (l : List ℕ) where
     buffer = take (p .place) b ++ (textOf l d ++ drop (length (textOf l d)) (drop (p .place) b));
   }
 
-  module _ (d : Device) (p : Pass) (b : List ℕ) (is : p .read ≡ readLine l) (g : good d ≡ true) (h : p .place + 96 ≤ length b) where
+  module _ (d : Device) (p : Pass) (b : List ℕ) (is : p .read ≡ readLine l) (g : good d ≡ true)
+      (h : p .place + roomFor (readLine l) ≤ length b) where
     turned-aloud : heeds d (p .read) ≡ true → taken l d p b ≡ turned d p b
     unfolding written
     turned-aloud e =
-        let room : 96 ≤ length (drop (p .place) b) = rw length-drop (omega arith) in
+        let room : roomFor (readLine l) ≤ length (drop (p .place) b) = rw length-drop (omega arith) in
         taken-obeyed l d p b e
         ∙ ap (λ (s : Stepped). record {
           device = s .answer .next;
@@ -102,8 +106,8 @@ module _ (l : List ℕ) where
   turned-room d p b fits =
       rw (length-append, length-append, length-drop, length-drop, length-take-le (p .place) b (omega (arith, fits))) (omega (arith, fits))
 
-  ran : (xs : List Device) (p : Pass) (b : List ℕ) → p .read ≡ readLine l → all good xs ≡ true → p .place + 96 * length xs ≤ length b
-      → Ran l xs p b (run l xs p b)
+  ran : (xs : List Device) (p : Pass) (b : List ℕ) → p .read ≡ readLine l → all good xs ≡ true
+      → p .place + roomFor (readLine l) * length xs ≤ length b → Ran l xs p b (run l xs p b)
   unfolding run fold joined
   ran [] p b is g h = record {
     read = refl;
@@ -112,7 +116,7 @@ module _ (l : List ℕ) where
     buffer = sym (rw add-zero (take-append-drop (p .place) b));
   }
   ran (d ∷ ds) p b is g h =
-      let short : length (textOf l d) ≤ 96 = text-short d l in
+      let short : length (textOf l d) ≤ roomFor (readLine l) = text-short d l in
       let fits : p .place + length (textOf l d) ≤ length b = omega (arith, short, h) in
       let ih = ran ds (turned d p b .pass) (turned d p b .buffer) is (and-right (good d) (all good ds) g)
       (omega (arith, short, h, turned-room d p b fits)) in
@@ -215,33 +219,80 @@ module _ (n room : ℕ) (g : Bool) where
       go true = refl
       go false = refl
 
--- ---- the line is read, unless the chain is refused
-module _ (l : List ℕ) {m n : ℕ} (e : n ≡ m) where
-  pub begun-read : n ≡ 0 → {o : Opening} {r : LineRead} → o ≡ openLine l → r ≡ readOn l o → record { read = r; place = 0 } ≡ begun m l
-  begun-read z p q = rw (← e, eq-eqb n 0 z) (ap (λ (x : LineRead). record { read = x; place = 0 }) (q ∙ ap (readOn l) p ∙ opened-read l))
+-- the answers of so many records to what was read take no more than this
+pub all-within : (n : ℕ) → n ≤ 16 → (r : LineRead) {k : ℕ} → k ≡ roomFor r → k * n ≤ 18432
+all-within n few r {k} is = mul-le-mul {n₁ = k} {m₁ = n} {n₂ = longestAnswer} {m₂ = 16} (rw is (most-room r)) few
 
-  pub begun-refused : (n ≡ 0 → ⊥) → record { read = Silent n 255; place = 0 } ≡ begun m l
-  begun-refused z = rw (← e, ne-eqb n 0 z)
+-- with what was read: a refusal of before goes first, and then there is room for every answer to it, or not
+module _ (n room : ℕ) (g : Bool) (r : LineRead) where
+  pub refused-early : (refusal n room g ≡ 0 → ⊥) → refusal n room g ≡ refusalOf n room g r
+  unfolding refusalOf firstOf
+  refused-early h = rw (ne-eqb (refusal n room g) 0 h)
+
+  module _ (e : refusal n room g ≡ 0) where
+    pub refused-short : room < roomFor r * n → 20 ≡ refusalOf n room g r
+    unfolding refusalOf firstOf
+    refused-short h = rw (e, lt-ltb room (roomFor r * n) h)
+
+    pub refused-not : roomFor r * n ≤ room → 0 ≡ refusalOf n room g r
+    unfolding refusalOf firstOf
+    refused-not h = rw (e, le-ltb room (roomFor r * n) h)
 
 -- ---- no refusal
-module _ (n room : ℕ) (g : Bool) (e : refusal n room g ≡ 0) where
-  has-room : 96 * n ≤ room
-  unfolding refusal
-  has-room = ltb-false room (96 * n) (unmet 19 (ltb room (96 * n)) _ e)
+module _ (n room : ℕ) (g : Bool) (r : LineRead) (e : refusalOf n room g r ≡ 0) where
+  pub none-early : refusal n room g ≡ 0
+  unfolding refusalOf firstOf
+  none-early = go (refusal n room g) (eqb (refusal n room g) 0) refl e
+    where
+      go : (m : ℕ) (t : Bool) → eqb m 0 ≡ t → cond (not t) m (cond (ltb room (roomFor r * n)) 20 0) ≡ 0 → m ≡ 0
+      go m true q h = eqb-true m 0 q
+      go m false q h = h
 
+  has-room : roomFor r * n ≤ room
+  unfolding refusalOf firstOf
+  has-room = ltb-false room (roomFor r * n) (unmet 19 (ltb room (roomFor r * n)) [] (rw none-early at e))
+
+-- ---- none before the line is read
+module _ (n room : ℕ) (g : Bool) (e : refusal n room g ≡ 0) where
   pub some : n ≡ 0 → ⊥
   unfolding refusal
   some = eqb-false n 0 (unmet 19 (eqb n 0) _ (below 19 (ltb room (96 * n)) _ e))
+
+  pub few : n ≤ 16
+  unfolding refusal
+  few = ltb-false 16 n (unmet 19 (ltb 16 n) _ (below 19 (eqb n 0) _ (below 19 (ltb room (96 * n)) _ e)))
 
   pub all-are : g ≡ true
   unfolding refusal
   all-are = not-false g (unmet 20 (not g) _ (below 19 (ltb 16 n) _ (below 19 (eqb n 0) _ (below 19 (ltb room (96 * n)) _ e))))
 
+-- ---- the line is read, unless the chain is refused
+module _ (n room : ℕ) (g : Bool) (l : List ℕ) {m : ℕ} (e : m ≡ refusal n room g) where
+  pub begun-refused : (m ≡ 0 → ⊥) → record { read = Silent m 255; place = 0 } ≡ begun n room g l
+  begun-refused z =
+      let early = refused-early n room g (readLine l) (λ q. z (e ∙ q)) in rw (← early, ← e, ne-eqb m 0 z)
+
+  module _ (z : m ≡ 0) {o : Opening} {r : LineRead} (p : o ≡ openLine l) (q : r ≡ readOn l o) where
+    is-line : r ≡ readLine l
+    is-line = q ∙ ap (readOn l) p ∙ opened-read l
+
+    pub begun-short : {k : ℕ} → k ≡ roomFor r * n → room < k → record { read = Silent 20 255; place = 0 } ≡ begun n room g l
+    begun-short is h =
+        let short = refused-short n room g (readLine l) (sym e ∙ z) (rw (is, is-line) at h) in rw (← short)
+
+    pub begun-read : {k : ℕ} → k ≡ roomFor r * n → k ≤ room → record { read = r; place = 0 } ≡ begun n room g l
+    begun-read is h =
+        let all = refused-not n room g (readLine l) (sym e ∙ z) (rw (is, is-line) at h) in
+        rw (← all) (ap (λ (x : LineRead). record { read = x; place = 0 }) is-line)
+
 -- ---- the walk of `chain`, from its beginning on
-module _ (xs : List Device) (l b : List ℕ) {g : Bool} {p : Pass} (e : g ≡ all good xs) (f : p ≡ begun (refusal (length xs) (length b) g) l)
+module _ (xs : List Device) (l b : List ℕ) {g : Bool} {p : Pass} (e : g ≡ all good xs) (f : p ≡ begun (length xs) (length b) g l)
   where
-    begins : p ≡ begun (refused xs (length b)) l
-    begins = f ∙ ap (λ (t : Bool). begun (refusal (length xs) (length b) t) l) e
+    begins : p ≡ record {
+      read = cond (eqb (refused xs l (length b)) 0) (readLine l) (Silent (refused xs l (length b)) 255);
+      place = 0;
+    }
+    begins = f ∙ ap (λ (t : Bool). begun (length xs) (length b) t l) e
 
     pub begun-fits : p .place ≤ length b
     begun-fits = rw f (omega arith)
@@ -249,23 +300,24 @@ module _ (xs : List Device) (l b : List ℕ) {g : Bool} {p : Pass} (e : g ≡ al
     pub chained : {ys : List Device} {c : List ℕ} {q : Pass} {r : Told} → Walked l p xs ys b c q → r ≡ told (q .read) (q .place)
         → Gives (chain xs l (length b)) b r ys c
     unfolding chain joined fold
-    chained {ys} {c} {q} {r} w k = go (eqb (refused xs (length b)) 0) refl
+    chained {ys} {c} {q} {r} w k = go (eqb (refused xs l (length b)) 0) refl
       where
-        start : (t : Bool) → eqb (refused xs (length b)) 0 ≡ t → p ≡ record {
+        start : (t : Bool) → eqb (refused xs l (length b)) 0 ≡ t → p ≡ record {
           read = cond t (readLine l)
-              (Silent (refused xs (length b)) 255);
+              (Silent (refused xs l (length b)) 255);
           place = 0;
         }
         start t h = begins ∙ rw h
 
-        go : (t : Bool) → eqb (refused xs (length b)) 0 ≡ t
-            → Gives (cond t (answers l xs) (refuses (refused xs (length b)) xs)) b r ys c
+        go : (t : Bool) → eqb (refused xs l (length b)) 0 ≡ t
+            → Gives (cond t (responds l xs) (refuses (refused xs l (length b)) xs)) b r ys c
         go true h =
-            let z = eqb-true (refused xs (length b)) 0 h in
+            let none = eqb-true (refused xs l (length b)) 0 h in
+            let z = none-early (length xs) (length b) (all good xs) (readLine l) none in
             let all-good = all-are (length xs) (length b) (all good xs) z in
             let is : p .read ≡ readLine l = ap (λ (x : Pass). x .read) (start true h) in
             let at : p .place ≡ 0 = ap (λ (x : Pass). x .place) (start true h) in
-            let t = ran l xs p b is all-good (omega (arith, at, has-room (length xs) (length b) (all good xs) z)) in
+            let t = ran l xs p b is all-good (omega (arith, at, has-room (length xs) (length b) (all good xs) (readLine l) none)) in
             let read : q .read ≡ readLine l = ap (λ (x : Pass). x .read) (w .pass) ∙ t .read ∙ is in
             let long : q .place ≡ length (texts l xs) = ap (λ (x : Pass). x .place) (w .pass) ∙ t .place
             ∙ rw at (zero-add (length (texts l xs))) in
@@ -278,7 +330,7 @@ module _ (xs : List Device) (l b : List ℕ) {g : Bool} {p : Pass} (e : g ≡ al
               left = w .buffer ∙ t .buffer ∙ rw (at, zero-add);
             }
         go false h =
-            let i = ap (λ (x : Pass). run l xs x b) (start false h) ∙ unheeded l xs (refused xs (length b)) 255 0 b in
+            let i = ap (λ (x : Pass). run l xs x b) (start false h) ∙ unheeded l xs (refused xs l (length b)) 255 0 b in
             record {
               result = k ∙ ap (λ (x : Run). told (x .pass .read) (x .pass .place))
                   (ap (λ (x : Pass). record { devices = xs; pass = x; buffer = b }) (w .pass ∙ ap (λ (x : Run). x .pass) i));

@@ -1,8 +1,8 @@
 -- A chain whose number is not 0 leaves all records and all bytes as they were; and a chain of good records stays good, whatever the line.
 -- Assumes nothing.
 use mathlib.Core.Path.{_≡_, refl, sym, ap, _∙_}
-use mathlib.Core.Bool.{Bool, true, false, cond, _&&_}
-use mathlib.Core.List.{List, [], _∷_, _++_, map}
+use mathlib.Core.Bool.{Bool, true, false, cond}
+use mathlib.Core.List.{List, [], _∷_, map}
 use Prim.Native.Nat.{ℕ}
 use native.Mathlib.Omega.{arith}
 use lib.Dec.{eqb}
@@ -10,23 +10,23 @@ use lib.ListN.{length, length-append}
 use borrow.Author.Tests.{eqb-true}
 use Rattle.laws.specs.Lists.{fold, all}
 use Rattle.laws.proofs.Bools.{and-left, and-right, and-both}
-use Rattle.phrase.specs.declared.WordsRead.{WordsRead}
 use Rattle.line.specs.declared.LineRead.{LineRead}
 use Rattle.line.specs.declared.LineRead.the-variants.{Silent, Addressed}
 use Rattle.line.specs.Reading.{readLine}
 use Rattle.device.specs.declared.Device.{Device}
 use Rattle.device.specs.Good.{good}
+use Rattle.reply.specs.Reply.{joined}
 use Rattle.carriage.proofs.Demands.{good-goes-on}
 use Rattle.chain.specs.declared.Told.{Told}
-use Rattle.chain.specs.Walk.{heeds, told}
-use Rattle.chain.specs.Chain.{blank, nextOf, textOf, numberOf, refused, Chained, answers, refuses, chain, joined, Gives}
+use Rattle.chain.specs.Walk.{heeds}
+use Rattle.chain.specs.Chain.{blank, nextOf, textOf, numberOf, refused, Chained, responds, refuses, chain, Gives}
 use Rattle.chain.proofs.Alone.{quiet-next, quiet-text, aloud-text}
-use Rattle.chain.proofs.Chains.{texts, told-number, some, all-are}
+use Rattle.chain.proofs.Chains.{texts, told-number, none-early, some, all-are}
 
 -- nothing is written, and the records stay
 pub record Kept (xs : List Device) (s : Chained) : Type 0 where
   pub devices : s .devices ≡ xs
-  pub replies : joined (s .replies) ≡ []
+  pub answers : joined (s .answers) ≡ []
 
 module _ (l : List ℕ) where
   -- a line that no record heeds
@@ -74,24 +74,24 @@ module _ (l : List ℕ) where
 -- "NOROOM ... BADSTATE", the line's 1 to 4, and 5
 pub refusal-keeps : (xs : List Device) (l : List ℕ) (room : ℕ) → (chain xs l room .number ≡ 0 → ⊥) → Kept xs (chain xs l room)
 unfolding chain joined fold
-refusal-keeps xs l room = go (eqb (refused xs room) 0) refl
+refusal-keeps xs l room = go (eqb (refused xs l room) 0) refl
   where
-    go : (t : Bool) → eqb (refused xs room) 0 ≡ t
-        → (cond t (answers l xs) (refuses (refused xs room) xs) .number ≡ 0 → ⊥)
-        → Kept xs (cond t (answers l xs) (refuses (refused xs room) xs))
+    go : (t : Bool) → eqb (refused xs l room) 0 ≡ t
+        → (cond t (responds l xs) (refuses (refused xs l room) xs) .number ≡ 0 → ⊥)
+        → Kept xs (cond t (responds l xs) (refuses (refused xs l room) xs))
     go true e h =
-        let z = eqb-true (refused xs room) 0 e in
+        let z = none-early (length xs) room (all good xs) (readLine l) (eqb-true (refused xs l room) 0 e) in
         let g = all-are (length xs) room (all good xs) z in
         let q = quiet-all l xs g (no-texts l xs g (some (length xs) room (all good xs) z) h) in
-        record { devices = q .0; replies = q .1 }
-    go false e h = record { devices = refl; replies = refl }
+        record { devices = q .0; answers = q .1 }
+    go false e h = record { devices = refl; answers = refl }
 
 -- the same of a call: all records and all bytes, and the length is 0
 pub refused-call : (xs : List Device) (l b : List ℕ) {r : Told} {ys : List Device} {c : List ℕ} → Gives (chain xs l (length b)) b r ys c
     → (r .number ≡ 0 → ⊥) → (ys ≡ xs) × (c ≡ b) × (r .length ≡ 0)
 refused-call xs l b {r} g h =
     let k = refusal-keeps xs l (length b) (λ z. h (ap (λ (t : Told). t .number) (g .result) ∙ z)) in
-    (g .devices ∙ k .devices, g .left ∙ rw (k .replies), ap (λ (t : Told). t .length) (g .result) ∙ rw (k .replies))
+    (g .devices ∙ k .devices, g .left ∙ rw (k .answers), ap (λ (t : Told). t .length) (g .result) ∙ rw (k .answers))
 
 -- ---- "BADSTATE if any record is not good" is met by a chain that was good once only if someone else changes a record
 next-good : (l : List ℕ) (xs : List Device) → all good xs ≡ true → all good (map (nextOf l) xs) ≡ true
@@ -103,8 +103,8 @@ next-good l (d ∷ ds) g =
 
 pub good-stays : (xs : List Device) (l : List ℕ) (room : ℕ) → all good xs ≡ true → all good (chain xs l room .devices) ≡ true
 unfolding chain
-good-stays xs l room g = go (eqb (refused xs room) 0)
+good-stays xs l room g = go (eqb (refused xs l room) 0)
   where
-    go : (t : Bool) → all good (cond t (answers l xs) (refuses (refused xs room) xs) .devices) ≡ true
+    go : (t : Bool) → all good (cond t (responds l xs) (refuses (refused xs l room) xs) .devices) ≡ true
     go true = next-good l xs g
     go false = g

@@ -8,6 +8,8 @@ use native.Mathlib.Omega.{arith}
 use native.Mathlib.Numerals.{add-one}
 use lib.ListN.{length, take, drop, getD, set, length-append, length-drop, take-append-drop, drop-of-length-le}
 use lib.Seq.{take-suc, drop-cons, take-all, length-take-le, set-at, append-snoc, getD-at}
+use Rattle.laws.proofs.Lists.{rest}
+use Rattle.buffer.proofs.Wrote.{rest-over}
 use Rattle.line.specs.declared.LineRead.{LineRead}
 use Rattle.device.specs.declared.Device.{Device}
 use Rattle.carriage.specs.declared.Answer.{Answer}
@@ -34,7 +36,7 @@ respond-length d l r b =
     let h : length (k .text) ≤ length b = omega (arith, once-fits d l b r, k .long) in
     rw (k .left, length-append, length-drop) (omega arith)
 
--- and so does a turn, whose reply lies in the buffer
+-- and so does a turn, whose answer lies in the buffer
 pub taken-length : (l : List ℕ) (d : Device) (p : Pass) (b : List ℕ) → length (taken l d p b .buffer) ≡ length b
 unfolding taken
 taken-length l d p b = go (heeds d (p .read))
@@ -54,24 +56,17 @@ taken-fits l d p b h = go (heeds d (p .read))
     go false = h
     go true = omega (arith, h, once-fits d l (drop (p .place) b) (p .read), length-drop (p .place) b)
 
--- the rest of the buffer, as the code lends it: from a place to the end, and what lies behind that
-rest-is : (k : ℕ) (b : List ℕ) → take (length b - k) (drop k b) ≡ drop k b
-rest-is k b = take-all (length b - k) (drop k b) (rw length-drop (omega arith))
-
-rest-over : (k : ℕ) (b : List ℕ) → drop (length b - k) (drop k b) ≡ []
-rest-over k b = let h : length (drop k b) ≤ length b - k = rw length-drop (omega arith) in drop-of-length-le (drop k b) h
-
 module _ (l : List ℕ) (d : Device) (r : LineRead) (k : ℕ) (b : List ℕ) {a : Answer} {c : List ℕ}
     (g : Gives (respondTo d l r (take (length b - k) (drop k b))) a c) where
-  pub reply-fits : k ≤ length b → k + a .length ≤ length b
-  reply-fits h = rw (g .result, rest-is k b) (omega (arith, h, once-fits d l (drop k b) r, length-drop k b))
+  pub answer-fits : k ≤ length b → k + a .length ≤ length b
+  answer-fits h = rw (g .result, rest k b) (omega (arith, h, once-fits d l (drop k b) r, length-drop k b))
 
   -- the turn of a record that heeds the line
   pub took : Took (obeyed l d (record { read = r; place = k }) b) (take k b ++ (c ++ drop (length b - k) (drop k b)))
       (record { device = a .next; pass = record { read = r; place = k + a .length } })
   took =
-      let s = g .result ∙ ap (λ (x : List ℕ). respondTo d l r x .answer) (rest-is k b) in
-      let q = g .left ∙ ap (λ (x : List ℕ). respondTo d l r x .buffer) (rest-is k b) in
+      let s = g .result ∙ ap (λ (x : List ℕ). respondTo d l r x .answer) (rest k b) in
+      let q = g .left ∙ ap (λ (x : List ℕ). respondTo d l r x .buffer) (rest k b) in
       record {
         device = rw s;
         pass = rw s;

@@ -16,6 +16,7 @@ use Rattle.carriage.specs.ReadOnce.{respondTo}
 use Rattle.chain.specs.declared.Pass.{Pass}
 use Rattle.chain.specs.declared.Turn.{Turn}
 use Rattle.chain.specs.declared.Told.{Told}
+use Rattle.chain.specs.Chain.{refusalOf}
 
 -- ---- one record's turn
 
@@ -46,7 +47,7 @@ idle d p b = record { device = d; pass = p; buffer = b }
 unfoldable pub taken : List ℕ → Device → Pass → List ℕ → Taken
 taken l d p b = cond (heeds d (p .read)) (obeyed l d p b) (idle d p b)
 
--- the replies so far lie in the buffer
+-- the answers so far lie in the buffer
 abbrev pub Fits : Pass → List ℕ → Type 0
 Fits p b = p .place ≤ length b
 
@@ -77,8 +78,10 @@ pub record Walked (l : List ℕ) (p : Pass) (xs ys : List Device) (b c : List �
 -- ---- before the walk and after it
 
 -- what is read of the line for the whole chain: nothing but its number, where the chain is refused
-abbrev pub begun : ℕ → List ℕ → Pass
-begun refused l = record { read = cond (eqb refused 0) (readLine l) (Silent refused NOWHERE); place = 0 }
+abbrev pub begun : ℕ → ℕ → Bool → List ℕ → Pass
+begun n room allGood l =
+    let refused = refusalOf n room allGood (readLine l) in
+    record { read = cond (eqb refused 0) (readLine l) (Silent refused NOWHERE); place = 0 }
 
 abbrev pub told : LineRead → ℕ → Told
 told (Silent n p) place = record { number = n; length = place }

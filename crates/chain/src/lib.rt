@@ -1,13 +1,16 @@
 // Several devices on one cable: a lent run of records, one line and a reply buffer in; each record that the line concerns is changed
-// where it stands, and their replies stand one behind the other. specs/Chain.antt says what a line makes of all of it.
+// where it stands, and their answers stand one behind the other. specs/Chain.antt says what a line makes of all of it.
 ghost use mathlib.Core.Path.{_≡_};
 ghost use mathlib.Core.Bool.{_&&_};
+ghost use Prim.Native.Nat.{_*_, _≤_};
 ghost use lib.ListN.{length};
 ghost use Rattle.laws.specs.Lists.{all};
 ghost use Rattle.device.specs.Good.{good as goodOf};
-ghost use Rattle.chain.specs.Chain.{Gives, refusal as refusalOf, chain as chainOf};
+ghost use Rattle.carriage.specs.Step.{roomFor};
+ghost use Rattle.chain.specs.Chain.{longestChain, Gives, refusal as refusalOf, chain as chainOf};
 ghost use Rattle.chain.specs.Walk.{heeds as heedsOf, obeyed, Fits, Took, Walked, begun, told};
 use carriage::respond;
+use carriage::room_for;
 use device::Device;
 use laws::ACCEPTED;
 use laws::BADSTATE;
@@ -20,7 +23,7 @@ use reply::LONGEST_REPLY;
 // "up to 16"
 pub const LONGEST_CHAIN: usize = 16;
 
-// What is carried from one record to the next: what was read of the line, and the place behind the replies so far.
+// What is carried from one record to the next: what was read of the line, and the place behind the answers so far.
 struct Pass {
     read: LineRead,
     place: usize,
@@ -32,7 +35,7 @@ struct Turn {
     pass: Pass,
 }
 
-// The answer to a line: the number, and the length of all replies together.
+// What a line came to: the number, and the length of all answers together.
 pub struct Told {
     pub number: u8,
     pub length: usize,
@@ -49,7 +52,7 @@ fn heeds(d: Device, p: Pass) -> bool
     }
 }
 
-// The turn of a record that the line is for: its reply stands behind those before it.
+// The turn of a record that the line is for: its answer stands behind those before it.
 fn take_turn(d: Device, line: &[u8], reply: &mut [u8], p: Pass) -> Turn
     requires { ⌜ Fits p (now reply) ⌝ }
     ensures { λ t. ⌜ Took (obeyed (now (line .entry)) d p (now (reply .entry))) (now (reply .exit)) t ⌝ }
@@ -81,16 +84,32 @@ fn refusal(n: usize, room: usize, good: bool) -> u8
     if good { ACCEPTED } else { BADSTATE }
 }
 
-// What is read of a line for the whole chain, and no reply so far.
+// As many bytes may the answers of n records to what was read take.
+fn room_for_all(read: LineRead, n: usize) -> usize
+    requires { ⌜ n ≤ longestChain ⌝ }
+    ensures { λ x. ⌜ x ≡ roomFor read * n ⌝ }
+{
+    room_for(read) * n
+}
+
+// What is read of a line for the whole chain, where there is room for every record's answer to it; and no answer so far.
 fn begin(n: usize, room: usize, good: bool, line: &[u8]) -> Pass
-    ensures { λ p. ⌜ p ≡ begun (refusalOf n room good) (now (line .entry)) ⌝ }
+    ensures { λ p. ⌜ p ≡ begun n room good (now (line .entry)) ⌝ }
 {
     let refused = refusal(n, room, good);
-    let read = if refused == 0 {
-        line::reading::read_line(line, line::reading::open_line(line))
-    } else {
-        LineRead::Silent(refused, NOWHERE)
-    };
+    if refused != 0 {
+        return Pass {
+            read: LineRead::Silent(refused, NOWHERE),
+            place: 0,
+        };
+    }
+    let read = line::reading::read_line(line, line::reading::open_line(line));
+    if room < room_for_all(read, n) {
+        return Pass {
+            read: LineRead::Silent(NOROOM, NOWHERE),
+            place: 0,
+        };
+    }
     Pass { read, place: 0 }
 }
 

@@ -5,7 +5,8 @@ use mathlib.Core.List.{List, _++_}
 use Prim.Native.Nat.{ℕ}
 use lib.ListN.{length, take, drop}
 use Rattle.device.specs.declared.Device.{Device}
-use Rattle.chain.specs.Chain.{Chained, joined}
+use Rattle.reply.specs.Reply.{joined}
+use Rattle.chain.specs.Chain.{Chained}
 use Rattle.chain_session.specs.declared.Cable.{Cable}
 use Rattle.chain_session.specs.declared.Heard.{Heard}
 use Rattle.chain_session.specs.declared.Lent.{Lent}
@@ -20,12 +21,12 @@ holding c ys = record { devices = ys ++ drop (c .count) (c .devices); count = c 
 
 -- what a line leaves, where s is what it makes of the records
 pub record Hears (s : Chained) (c : Cable) (b b′ : List ℕ) (r : Heard) : Type 0 where
-  pub told : r .told ≡ record { number = s .number; length = length (joined (s .replies)) }
+  pub told : r .told ≡ record { number = s .number; length = length (joined (s .answers)) }
   pub next : r .next ≡ holding c (s .devices)
-  pub left : b′ ≡ joined (s .replies) ++ drop (length (joined (s .replies))) b
+  pub left : b′ ≡ joined (s .answers) ++ drop (length (joined (s .answers))) b
 
 -- the same of places that were lent, beside others
 pub record Lends (s : Chained) (others : List Device) (b b′ : List ℕ) (r : Lent) : Type 0 where
-  pub told : r .told ≡ record { number = s .number; length = length (joined (s .replies)) }
+  pub told : r .told ≡ record { number = s .number; length = length (joined (s .answers)) }
   pub devices : r .devices ≡ s .devices ++ others
-  pub left : b′ ≡ joined (s .replies) ++ drop (length (joined (s .replies))) b
+  pub left : b′ ≡ joined (s .answers) ++ drop (length (joined (s .answers))) b

@@ -13,15 +13,16 @@ use chain::chain;
 use device::Device;
 use input::parts::is_report;
 use input::parts::put_answer;
-use input::parts::put_told;
+use input::parts::put_reported;
 use input::reports::PlacedRead;
 use laws::BADREPORT;
+use reply::LONGEST_ANSWER;
 use reply::LONGEST_REPLY;
 use units::Number;
 use units::lesser;
 
-// 96 bytes for each record of the longest chain.
-pub const MOST_REPLIES: usize = 1536;
+// 96 bytes for the reply and for each info line of each record of the longest chain.
+pub const MOST_ANSWERS: usize = 18432;
 
 // Up to 16 records, one behind the other: the first `count` places.
 pub struct Cable {
@@ -41,9 +42,10 @@ pub struct Turned {
     pub next: Cable,
 }
 
-// What a report makes of a chain.
+// What a report makes of a chain: its number, the length of its alert, and the chain afterwards.
 struct Reported {
     number: u8,
+    length: usize,
     next: Cable,
 }
 
@@ -83,40 +85,52 @@ pub fn hear(c: Cable, line: &[u8], reply: &mut [u8]) -> Heard
     }
 }
 
-// What a report makes of the record at a place of the chain, counted from 1; 22 where there is no such place.
-fn report_at(c: Cable, place: usize, axis: Number, kind: Number, last: Number) -> Reported
-    ensures { λ r. ⌜ Reports (outcomeAt (recordsOf c) place axis kind last) c r ⌝ }
+// What a report makes of the record at a place of the chain, counted from 1, and of a buffer, in which its alert stands; 22 where there
+// is no such place.
+fn report_at(
+    c: Cable,
+    place: usize,
+    axis: Number,
+    kind: Number,
+    last: Number,
+    alert: &mut [u8],
+) -> Reported
+    ensures { λ r. ⌜ Reports (outcomeAt (recordsOf c) place axis kind last (now (alert .entry))) c r (now (alert .exit)) ⌝ }
 {
     let count = c.count;
     if place == 0 {
         return Reported {
             number: BADREPORT,
+            length: 0,
             next: c,
         };
     }
     if lesser(count, LONGEST_CHAIN) < place {
         return Reported {
             number: BADREPORT,
+            length: 0,
             next: c,
         };
     }
     let i = place - 1;
     let mut devices = c.devices;
-    let o = carriage::report(devices[i], axis, kind, last);
-    let next = o.next;
+    let a = carriage::report(devices[i], axis, kind, last, alert);
+    let next = a.next;
     devices[i] = next;
     Reported {
-        number: o.number,
+        number: a.number,
+        length: a.length,
         next: Cable { devices, count },
     }
 }
 
-fn report(c: Cable, r: PlacedRead) -> Reported
-    ensures { λ o. ⌜ Reports (outcome (recordsOf c) r) c o ⌝ }
+fn report(c: Cable, r: PlacedRead, alert: &mut [u8]) -> Reported
+    ensures { λ o. ⌜ Reports (outcome (recordsOf c) r (now (alert .entry))) c o (now (alert .exit)) ⌝ }
 {
     match r {
         PlacedRead::Misspelt => Reported {
             number: BADREPORT,
+            length: 0,
             next: c,
         },
         PlacedRead::Report(place, axis, kind, last) => report_at(
@@ -125,6 +139,7 @@ fn report(c: Cable, r: PlacedRead) -> Reported
             axis,
             kind,
             last,
+            alert,
         ),
     }
 }
@@ -132,10 +147,11 @@ fn report(c: Cable, r: PlacedRead) -> Reported
 fn report_turn(c: Cable, part: &[u8], out: &mut [u8], at: usize) -> Turned
     ensures { λ t. ⌜ Took (reportTurn (recordsOf c) (readPlaced (now (part .entry)))) c (now (out .entry)) at t (now (out .exit)) ⌝ }
 {
-    let o = report(c, input::reports::read_placed(part));
+    let mut alert = [0; LONGEST_REPLY];
+    let o = report(c, input::reports::read_placed(part), &mut alert);
     let next = o.next;
     Turned {
-        place: put_told(out, at, b"report ", o.number),
+        place: put_reported(out, at, o.number, o.length, &alert),
         next,
     }
 }
@@ -143,13 +159,13 @@ fn report_turn(c: Cable, part: &[u8], out: &mut [u8], at: usize) -> Turned
 fn line_turn(c: Cable, part: &[u8], out: &mut [u8], at: usize) -> Turned
     ensures { λ t. ⌜ Took (lineTurn (recordsOf c) (now (part .entry))) c (now (out .entry)) at t (now (out .exit)) ⌝ }
 {
-    let mut reply = [0; MOST_REPLIES];
-    let room = LONGEST_REPLY * lesser(c.count, LONGEST_CHAIN);
-    let h = hear(c, part, &mut reply[..room]);
+    let mut answers = [0; MOST_ANSWERS];
+    let room = LONGEST_ANSWER * lesser(c.count, LONGEST_CHAIN);
+    let h = hear(c, part, &mut answers[..room]);
     let told = h.told;
     let next = h.next;
     Turned {
-        place: put_answer(out, at, told.number, told.length, &reply),
+        place: put_answer(out, at, told.number, told.length, &answers),
         next,
     }
 }

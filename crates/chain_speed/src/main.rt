@@ -4,6 +4,7 @@ use chain_session::Cable;
 use device::Device;
 use input::reports::ReportRead;
 use libc::STDOUT_FILENO;
+use reply::LONGEST_REPLY;
 use units::Number;
 
 // What was done: how many calls, and a sum over what they answered.
@@ -40,9 +41,10 @@ fn fresh_chain(count: usize) -> Cable {
 
 // Axes 1 and 2 reached home at 0.
 fn reached(d: Device) -> Device {
-    let o = carriage::report(d, Number(1), Number(3), Number(0));
+    let mut alert = [0u8; LONGEST_REPLY];
+    let o = carriage::report(d, Number(1), Number(3), Number(0), &mut alert);
     let first = o.next;
-    let p = carriage::report(first, Number(2), Number(3), Number(0));
+    let p = carriage::report(first, Number(2), Number(3), Number(0), &mut alert);
     p.next
 }
 
@@ -97,7 +99,7 @@ fn run(repeat: Number, length: Number, home: Number, line: &[u8]) {
     if count == 0 {
         return say(0, 0);
     }
-    let mut reply = [0u8; chain_session::MOST_REPLIES];
+    let mut reply = [0u8; chain_session::MOST_ANSWERS];
     let c = homed(fresh_chain(count), home.place() == 1, &mut reply);
     let many = repeat.place();
     let sum = hear_often(c, line, many, &mut reply);

@@ -46,6 +46,7 @@ device-made Device.ParkingState = refl
 device-made Device.Park = refl
 device-made Device.Unpark = refl
 device-made Device.Echo = refl
+device-made Device.Help = refl
 
 pub form-makes : (c : Command) → made (formOf c) ≡ c
 form-makes (OfAxes c) = axis-made c

@@ -2,3 +2,4 @@ pub mod Demands
 pub mod FormMakes
 pub mod Rules
 pub mod Sums
+pub mod Informing

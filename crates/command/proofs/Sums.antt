@@ -9,7 +9,7 @@ use Rattle.laws.proofs.Lists.{entry, map-at}
 use Rattle.command.specs.declared.kinds.Use.{Use}
 use Rattle.command.specs.declared.kinds.Use.the-variants.{Apart, Gets, Sets}
 use Rattle.command.specs.declared.kinds.Data.{Data}
-use Rattle.command.specs.declared.kinds.Data.the-variants.{Nought, Values, Stored, Position, Active, Parked, Words}
+use Rattle.command.specs.declared.kinds.Data.the-variants.{Nought, Values, Stored, Position, Active, Parked, Words, Info}
 use Rattle.command.specs.declared.kinds.Kind.{Kind}
 use Rattle.command.specs.Commands.{kinds, kindAt}
 use Rattle.command.specs.Sums.{kindOf}
@@ -27,6 +27,7 @@ dataNumber Position = 3
 dataNumber Active = 4
 dataNumber Parked = 5
 dataNumber Words = 6
+dataNumber Info = 7
 
 abbrev sumOf : Kind → ℕ
 sumOf k = useNumber (k .uses) + cond (k .unparked) 32 0 + cond (k .rest) 16 0 + cond (k .shows) 8 0 + dataNumber (k .reply)
@@ -34,5 +35,5 @@ sumOf k = useNumber (k .uses) + cond (k .unparked) 32 0 + cond (k .rest) 16 0 + 
 abbrev sums : List ℕ
 sums = map sumOf kinds
 
-pub row-at : (k d : ℕ) → k < 21 → kindOf (getD sums k d) ≡ kindAt k
+pub row-at : (k d : ℕ) → k < 22 → kindOf (getD sums k d) ≡ kindAt k
 row-at k d h = sym (map-at kindOf sums k d) ∙ entry kinds k (kindOf d) _ h

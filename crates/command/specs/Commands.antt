@@ -1,5 +1,5 @@
--- Document 01's table of commands: one line a row, with its words and what is constant of it. The only list of these words beside
--- the spelling and the reader: refusing, writing and what an echo carries are said from it.
+-- Document 01's table of commands, and behind it the commands of 02: one line a row, with its words and what is constant of it. The only
+-- list of these words beside the spelling and the reader: refusing, writing and what an echo carries are said from it.
 use mathlib.Core.Bool.{Bool, true, false, cond, _&&_}
 use mathlib.Core.List.{List, [], _∷_, _++_, map}
 use Prim.Native.Nat.{ℕ}
@@ -24,7 +24,7 @@ use Rattle.command.specs.declared.forms.Form.{Form}
 use Rattle.command.specs.declared.kinds.Use.{Use}
 use Rattle.command.specs.declared.kinds.Use.the-variants.{Apart, Gets, Sets}
 use Rattle.command.specs.declared.kinds.Data.{Data}
-use Rattle.command.specs.declared.kinds.Data.the-variants.{Nought, Values, Stored, Position, Active, Parked, Words}
+use Rattle.command.specs.declared.kinds.Data.the-variants.{Nought, Values, Stored, Position, Active, Parked, Words, Info}
 use Rattle.command.specs.declared.kinds.Kind.{Kind}
 use Rattle.command.specs.declared.kinds.Demands.{Demands}
 use Rattle.command.specs.Settings.{about, nameOf, readOnly, onlyAtRest}
@@ -122,6 +122,7 @@ table =
     ∷ row (w "tools" ∷ w "parking" ∷ []) (w "park" ∷ []) Apart anytime atRest changes Nought (device Device.Park)
     ∷ row (w "tools" ∷ w "parking" ∷ []) (w "unpark" ∷ []) Apart anytime evenMoving changes Nought (device Device.Unpark)
     ∷ row (w "tools" ∷ w "echo" ∷ []) [] Apart anytime evenMoving shows Words (device Device.Echo)
+    ∷ row (w "help" ∷ []) (w "commands" ∷ []) Apart anytime evenMoving shows Info (device Device.Help)
     ∷ []
 
 abbrev pub rowAt : ℕ → Row
@@ -164,6 +165,22 @@ demandsOf f = demandsWith (kindAt (f .row) .uses) (kindAt (f .row)) (f .setting)
 abbrev pub demands : Command → Demands
 demands c = demandsOf (formOf c)
 
+-- ---- info lines
+
+abbrev pub isInfo : Data → Bool
+isInfo Nought = false
+isInfo Values = false
+isInfo Stored = false
+isInfo Position = false
+isInfo Active = false
+isInfo Parked = false
+isInfo Words = false
+isInfo Info = true
+
+-- 02, order 5: "answers 0 and one info line each"
+abbrev pub informs : Command → Bool
+informs c = isInfo (demands c .reply)
+
 -- ---- its words
 
 abbrev pub isWords : Data → Bool
@@ -174,6 +191,7 @@ isWords Position = false
 isWords Active = false
 isWords Parked = false
 isWords Words = true
+isWords Info = false
 
 -- "tools echo WORDS": any words behind the others, which the reply has as its data
 abbrev pub anyWords : Row → Bool

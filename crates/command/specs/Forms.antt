@@ -63,6 +63,7 @@ deviceForm Device.ParkingState = bare 17
 deviceForm Device.Park = bare 18
 deviceForm Device.Unpark = bare 19
 deviceForm Device.Echo = bare 20
+deviceForm Device.Help = bare 21
 
 abbrev pub formOf : Command → Form
 formOf (OfAxes c) = axisForm c

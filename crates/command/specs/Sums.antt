@@ -7,17 +7,17 @@ use lib.ListN.{getD}
 use Rattle.command.specs.declared.kinds.Use.{Use}
 use Rattle.command.specs.declared.kinds.Use.the-variants.{Apart, Gets, Sets}
 use Rattle.command.specs.declared.kinds.Data.{Data}
-use Rattle.command.specs.declared.kinds.Data.the-variants.{Nought, Values, Stored, Position, Active, Parked, Words}
+use Rattle.command.specs.declared.kinds.Data.the-variants.{Nought, Values, Stored, Position, Active, Parked, Words, Info}
 use Rattle.command.specs.declared.kinds.Kind.{Kind}
 use Rattle.command.specs.Settings.{About, Writing, Always, AtRest, Never}
 
--- of a row: the number of its data (0 to 6), 8 where it only shows, 16 where it takes its axes at rest, 32 where the device is to be
+-- of a row: the number of its data (0 to 7), 8 where it only shows, 16 where it takes its axes at rest, 32 where the device is to be
 -- unparked, 64 where it gets and 128 where it sets
 abbrev pub useAt : ℕ → Use
 useAt k = getD (Apart ∷ Gets ∷ []) k Sets
 
 abbrev pub dataAt : ℕ → Data
-dataAt k = getD (Nought ∷ Values ∷ Stored ∷ Position ∷ Active ∷ Parked ∷ []) k Words
+dataAt k = getD (Nought ∷ Values ∷ Stored ∷ Position ∷ Active ∷ Parked ∷ Words ∷ []) k Info
 
 abbrev pub kindOf : ℕ → Kind
 kindOf sum = record {

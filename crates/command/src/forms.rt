@@ -85,6 +85,7 @@ impl DeviceCommand {
             DeviceCommand::Park => Form::of(18, none, zero, zero),
             DeviceCommand::Unpark => Form::of(19, none, zero, zero),
             DeviceCommand::Echo => Form::of(20, none, zero, zero),
+            DeviceCommand::Help => Form::of(21, none, zero, zero),
         }
     }
 }

@@ -1,7 +1,7 @@
 // What is constant of a command: document 01's table of commands as data, one row a kind, looked up and not matched.
 // specs/Commands.antt has the same table, with the words of each row.
 ghost use mathlib.Core.Path.{_≡_};
-ghost use Rattle.command.specs.Commands.{kindAt, demandsBy, demandsOf, isWords};
+ghost use Rattle.command.specs.Commands.{kindAt, demandsBy, demandsOf, isWords, isInfo};
 ghost use Rattle.command.specs.Sums.{useAt, dataAt, kindOf};
 use crate::Command;
 use crate::Setting;
@@ -15,7 +15,7 @@ pub enum Use {
 }
 
 // The data of a command's reply: 0, the values of its setting, the position stored under its number, the positions, the
-// warnings, whether the device is parked, or its words.
+// warnings, whether the device is parked, its words, or 0 with info lines behind the reply.
 pub enum Data {
     Nought,
     Values,
@@ -24,6 +24,7 @@ pub enum Data {
     Active,
     Parked,
     Words,
+    Info,
 }
 
 impl Data {
@@ -37,8 +38,19 @@ impl Data {
             | Data::Stored
             | Data::Position
             | Data::Active
-            | Data::Parked => false,
+            | Data::Parked
+            | Data::Info => false,
             Data::Words => true,
+        }
+    }
+
+    // Do info lines stand behind the reply?
+    pub fn informs(self) -> bool
+        ensures { λ r. ⌜ r ≡ isInfo self ⌝ }
+    {
+        match self {
+            Data::Info => true,
+            _ => false,
         }
     }
 }
@@ -63,7 +75,7 @@ pub struct Demands {
     pub reply: Data,
 }
 
-// What is said of a row, as numbers to add: the first six are the data of its reply.
+// What is said of a row, as numbers to add: the first seven are the data of its reply.
 const VALUES: u8 = 1;
 
 const STORED: u8 = 2;
@@ -75,6 +87,8 @@ const ACTIVE: u8 = 4;
 const PARKED: u8 = 5;
 
 const WORDS: u8 = 6;
+
+const INFO: u8 = 7;
 
 const SHOWS: u8 = 8;
 
@@ -90,7 +104,7 @@ const SETS: u8 = 128;
 const PLAIN: u8 = 0;
 
 // A byte a row: the proof of a function that reads a table of structs grows with each of their fields.
-const KINDS: [u8; 21] = [
+const KINDS: [u8; 22] = [
     // (none)
     SHOWS,
     // home
@@ -133,6 +147,8 @@ const KINDS: [u8; 21] = [
     PLAIN,
     // tools echo WORDS
     SHOWS + WORDS,
+    // help commands
+    SHOWS + INFO,
 ];
 
 impl Use {
@@ -158,7 +174,8 @@ impl Data {
             3 => Data::Position,
             4 => Data::Active,
             5 => Data::Parked,
-            _ => Data::Words,
+            6 => Data::Words,
+            _ => Data::Info,
         }
     }
 }
@@ -183,7 +200,7 @@ impl Kind {
 fn sum_at(row: usize) -> u8
     ensures { λ r. ⌜ kindOf r ≡ kindAt row ⌝ }
 {
-    if row < 21 { KINDS[row] } else { SHOWS }
+    if row < 22 { KINDS[row] } else { SHOWS }
 }
 
 fn kind_at(row: usize) -> Kind

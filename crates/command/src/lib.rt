@@ -67,6 +67,7 @@ pub enum DeviceCommand {
     Park,
     Unpark,
     Echo,
+    Help,
 }
 
 // A command by its scope.

@@ -48,11 +48,11 @@ fn read_part(buf: &mut [u8]) -> Part
     Part { kept, more: false }
 }
 
-// Shows what a part makes of a record, and hands on the next one. What is shown of one part has at most 177 bytes.
+// Shows what a part makes of a record, and hands on the next one. What is shown of one part has at most 1,233 bytes.
 fn answer(d: Device, part: &[u8]) -> Device
     ensures { λ r. ⌜ r ≡ shown d (now (part .entry)) .next ⌝ }
 {
-    let mut out = [0u8; 177];
+    let mut out = [0u8; 1233];
     let t = session::show(d, part, &mut out, 0);
     io::write_all(libc::STDOUT_FILENO, &out[..t.place]);
     t.next

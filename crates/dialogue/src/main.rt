@@ -1,9 +1,11 @@
-// A host talks to a device: one command of each row of the table, written, obeyed, and its reply read back.
+// A host talks to a device: one command of each row of the table, written, obeyed, and each message of the answer read back. Alerts are
+// asked for, and `home` is sent once more, so that they come.
 // Each line printed is the command's line as it was written, with a checksum every other time, and what the host understood.
 use command::AxisCommand;
 use command::AxisSetting;
 use command::Command;
 use command::DeviceCommand;
+use command::DeviceSetting;
 use command::Target;
 use device::Device;
 use host_reader::Message;
@@ -13,6 +15,8 @@ use host_reader::State;
 use host_reader::Text;
 use host_reader::reading::field;
 use libc::STDOUT_FILENO;
+use reply::LONGEST_ANSWER;
+use reply::LONGEST_REPLY;
 use units::Number;
 use units::Position;
 use units::Speed;
@@ -57,7 +61,9 @@ fn of_device(k: u8) -> DeviceCommand {
         18 => DeviceCommand::ParkingState,
         19 => DeviceCommand::Park,
         20 => DeviceCommand::Unpark,
-        _ => DeviceCommand::Echo,
+        21 => DeviceCommand::Echo,
+        22 => DeviceCommand::Help,
+        _ => DeviceCommand::Set(DeviceSetting::CommAlert, Number(1)),
     }
 }
 
@@ -68,7 +74,10 @@ fn command(k: u8) -> Command {
     if k < 18 {
         return Command::OfAxes(late(k));
     }
-    Command::OfDevice(of_device(k))
+    if k < 24 {
+        return Command::OfDevice(of_device(k));
+    }
+    Command::OfAxes(AxisCommand::Home)
 }
 
 fn axis(k: u8) -> u64 {
@@ -143,20 +152,30 @@ fn say_message(m: Message, line: &[u8]) {
     say(b"\n");
 }
 
-fn say_reply(reply: &[u8]) {
-    match host_reader::reading::read_message(reply) {
-        MessageRead::Message(m) => say_message(m, reply),
-        MessageRead::NotReply => say(b" => no reply\n"),
+fn say_read(line: &[u8]) {
+    match host_reader::reading::read_message(line) {
+        MessageRead::Message(m) => say_message(m, line),
+        MessageRead::NotReply => say(b" => no message\n"),
     }
 }
 
-// The line goes to the device, and its reply comes back.
+// What is sent, message by message: each ends with its LF.
+fn say_sent(sent: &[u8]) {
+    let mut at: usize = 0;
+    while at < sent.len() {
+        let end = input::parts::part_end(sent, at);
+        say_read(&sent[at..end]);
+        at = end;
+    }
+}
+
+// The line goes to the device, and its answer comes back.
 fn exchange(d: Device, line: &[u8]) -> Device {
-    let mut reply = [0u8; 96];
-    let a = carriage::step(d, line, &mut reply);
+    let mut answer = [0u8; LONGEST_ANSWER];
+    let a = carriage::step(d, line, &mut answer);
     let next = a.next;
     say(field(line, 0, line::framing::printable_len(line)));
-    say_reply(field(&reply, 0, a.length));
+    say_sent(field(&answer, 0, a.length));
     next
 }
 
@@ -173,15 +192,19 @@ fn ask(d: Device, axis: u64, c: Command, sum: bool) -> Device {
     exchange(d, field(&line, 0, w.length))
 }
 
+// A motor report; its alert comes by itself.
 fn reported(d: Device, axis: i32, kind: i32, last: i32) -> Device {
-    let o = carriage::report(d, Number(axis), Number(kind), Number(last));
-    o.next
+    let mut alert = [0u8; LONGEST_REPLY];
+    let a = carriage::report(d, Number(axis), Number(kind), Number(last), &mut alert);
+    let next = a.next;
+    say_sent(field(&alert, 0, a.length));
+    next
 }
 
 // What the motors report behind a command: both axes are home behind `home`; axis 2 raises FQ before `warnings`.
 fn motors(d: Device, k: u8) -> Device {
     match k {
-        1 => reported(reported(d, 1, 3, 0), 2, 3, 0),
+        1 | 24 => reported(reported(d, 1, 3, 0), 2, 3, 0),
         15 => reported(d, 2, 4, 2),
         _ => d,
     }
@@ -191,7 +214,7 @@ fn main() {
     let fresh = Device::fresh(Number(1), 2, Number(100));
     let mut d = fresh.next;
     let mut k: u8 = 0;
-    while k < 22 {
+    while k < 25 {
         let next = ask(d, axis(k), command(k), k % 2 == 1);
         d = motors(next, k);
         k += 1;

@@ -14,13 +14,14 @@ use Rattle.laws.specs.Text.{text}
 use Rattle.laws.proofs.Bools.{and-left, and-right}
 use Rattle.reply.specs.Reply.{info}
 use Rattle.reply.specs.Help.{helpTexts, infoLines}
+use Rattle.reply.proofs.Room.{mostText}
 use Rattle.host_reader.specs.Spelling.{Data}
 use Rattle.host_reader.specs.Reading.{dataByte, readMessage}
 use Rattle.host_reader.specs.declared.MessageRead.{MessageRead}
 use Rattle.host_reader.specs.declared.MessageRead.the-variants as Read
 use Rattle.host_reader.proofs.Spelled.{data-of}
 use Rattle.host_reader.proofs.TextStands.{InfoText}
-use Rattle.host_reader.proofs.ReadsBack.{heardInfo, mostText, info-back}
+use Rattle.host_reader.proofs.ReadsBack.{heardInfo, info-back}
 
 -- a test that antt computes, and what it says of a text
 unfoldable fits : List ℕ → Bool

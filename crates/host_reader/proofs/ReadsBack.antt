@@ -11,8 +11,8 @@ use lib.ListN.{length, length-append}
 use borrow.Author.Tests.{le-ltb}
 use Rattle.laws.specs.Text.{text, spaced}
 use Rattle.laws.proofs.Spaced.{trail}
-use Rattle.numbers.specs.Checksum.{checksum, sumText}
-use Rattle.numbers.specs.Decimal.{lastDigit, digits, twoDigits, hexPair}
+use Rattle.numbers.specs.Checksum.{checksum}
+use Rattle.numbers.specs.Decimal.{lastDigit, digits, twoDigits}
 use Rattle.numbers.specs.Spelling.{Digit}
 use Rattle.numbers.proofs.Decimal.{digits-one, pair-spelled}
 use Rattle.flags.specs.Flags.{warningNames, bits, first}
@@ -20,7 +20,7 @@ use Rattle.reply.specs.Pieces.{warningAt}
 use Rattle.reply.specs.Reply.{verdict, status, highest, body, ending, message, reply, alertBody, alert, infoBody, info}
 use Rattle.reply.specs.declared.Head.{Head}
 use Rattle.reply.proofs.Texts.{highest-is, sum-wanted, sum-unwanted}
-use Rattle.reply.proofs.Room.{mostData}
+use Rattle.reply.proofs.Room.{mostData, ending-length, mostText, most-text}
 use Rattle.host_reader.specs.Spelling.{Address, Axis, Verdict, accepted, rejected, Status, idle, busy, Warning, fd, fq, fs, ft, fb, fp, fe, wr, Data, End, bare, summed, Says}
 use Rattle.host_reader.specs.Spelling as spelling
 use Rattle.host_reader.specs.Reading.{field, dataPlace, textPlace, frontEnd, readMessage}
@@ -115,11 +115,6 @@ end-spelled true s = rw (sum-wanted true s refl) (summed (pair-spelled (checksum
 end-spelled false s = rw (sum-unwanted false s refl) bare
 
 -- the most bytes of data that fit into a reply, and the end
-ending-size : (sum : Bool) (s : List ℕ) → mostData sum + length (ending sum s) ≡ 79
-unfolding ending sumText hexPair text
-ending-size true s = refl
-ending-size false s = refl
-
 -- ---- the whole, for every kind
 module _ {mark a k : List ℕ} {n j : ℕ} (m : One mark) (address : Address a n) (axis : Axis k j) where
   before : (ws : List (List ℕ)) → length (mark ++ spaced (a ∷ k ∷ ws)) ≡ 5 + length (trail ws)
@@ -133,7 +128,7 @@ module _ {mark a k : List ℕ} {n j : ℕ} (m : One mark) (address : Address a n
   spelled sum {ws} says short =
       let s = spaced (a ∷ k ∷ ws) in
       let small : length (mark ++ s ++ ending sum s) ≤ 96 = rw (length-append (mark ++ s) (ending sum s))
-      (omega (arith, before ws, ending-size sum s)) in
+      (omega (arith, before ws, ending-length sum s)) in
       spelling.message address axis says (end-spelled sum s) small
 
 module _ (h : Head) (sum : Bool) (some : 1 ≤ h .address) (most : h .address ≤ 99) (one-digit : h .axis ≤ 9) where
@@ -185,13 +180,6 @@ module _ (h : Head) (sum : Bool) (some : 1 ≤ h .address) (most : h .address �
   alert-back = message-read alert-spelled
 
 -- ---- info lines: 88 bytes of text without a checksum, 85 with one
-abbrev pub mostText : Bool → ℕ
-mostText sum = cond sum 85 88
-
-text-room : (sum : Bool) → mostText sum ≡ 11 + mostData sum
-text-room true = refl
-text-room false = refl
-
 module _ (address axis : ℕ) (sum : Bool) (some : 1 ≤ address) (most : address ≤ 99) (one-digit : axis ≤ 9) where
   text-place : length (text "#" ++ spaced (twoDigits address ∷ digits axis ∷ [] ∷ [])) ≡ textPlace
   text-place = before hash (address-spelled address some most) (axis-spelled axis one-digit) ([] ∷ []) ∙ info-size []
@@ -206,7 +194,7 @@ module _ (address axis : ℕ) (sum : Bool) (some : 1 ≤ address) (most : addres
   info-spelled (InfoText.said (Data.begun {c} {s} w b)) short =
       let a = address-spelled address some most in
       let k = axis-spelled axis one-digit in
-      rw text-place at (spelled hash a k sum (Says.info (Data.begun w b)) (omega (arith, info-size (c ∷ s), text-room sum)))
+      rw text-place at (spelled hash a k sum (Says.info (Data.begun w b)) (omega (arith, info-size (c ∷ s), most-text sum)))
 
   -- the text stands where the message says
   pub info-text : (t : List ℕ) → field (info address axis sum t) (placeFor t) (length t) ≡ t

@@ -5,13 +5,15 @@ ghost use Rattle.laws.specs.Lists.{all};
 ghost use Rattle.host_reader.specs.Reading.{dataByte};
 
 // Where what a kind has of its own begins: behind mark, address and axis.
-pub const FRONT_END: usize = 5;
-// Where the data of a reply begin, and the text of an info line that is not empty.
-pub const DATA_PLACE: usize = 17;
+const FRONT_END: usize = 5;
 
-pub const TEXT_PLACE: usize = 6;
+// Where the data of a reply begin, and the text of an info line that is not empty.
+const DATA_PLACE: usize = 17;
+
+const TEXT_PLACE: usize = 6;
+
 // Where an alert has said all.
-pub const ALERT_END: usize = 13;
+const ALERT_END: usize = 13;
 
 // Where a text stands in the line: from which byte on, and how many.
 pub struct Text {
@@ -45,26 +47,26 @@ pub enum MessageRead {
 
 // Parts of a line as they are read, each with whether it is right. The front: the place of its mark in the list of marks; an
 // address, 0 where there is none; an axis, above 9 where there is none.
-pub struct Front {
-    pub mark: usize,
-    pub address: u64,
-    pub axis: u64,
-    pub right: bool,
+struct Front {
+    mark: usize,
+    address: u64,
+    axis: u64,
+    right: bool,
 }
 
-pub struct StateRead {
-    pub state: State,
-    pub right: bool,
+struct StateRead {
+    state: State,
+    right: bool,
 }
 
-pub struct TextRead {
-    pub text: Text,
-    pub right: bool,
+struct TextRead {
+    text: Text,
+    right: bool,
 }
 
-pub struct SaidRead {
-    pub said: Said,
-    pub right: bool,
+struct SaidRead {
+    said: Said,
+    right: bool,
 }
 
 pub(crate) fn data_byte(c: u8) -> bool

@@ -84,6 +84,7 @@ pub fn put_command(buf: &mut [u8], at: usize, c: Command, message: &[u8]) -> usi
           ; tools parking state \
           ; tools parking park \
           ; tools parking unpark \
-          ; tools echo WORDS";
+          ; tools echo WORDS \
+          ; help commands";
     put_row(buf, at, rows, c.form(), message)
 }

@@ -16,7 +16,7 @@ use Rattle.laws.proofs.Order.{lt-or-le}
 use Rattle.numbers.proofs.Decimal.{digits-length}
 use Rattle.buffer.specs.Wrote.{Wrote}
 use Rattle.buffer.proofs.Wrote.{_▸_, wrote-none}
-use Rattle.input.specs.Prints.{isReport, told, answered, caret}
+use Rattle.input.specs.Prints.{isReport, told, reported, answered, caret}
 
 module _ (p : List ℕ) where
   pub report-none : length p ≡ 0 → false ≡ isReport p
@@ -56,7 +56,12 @@ module _ (number long : ℕ) (s : List ℕ) {b o : List ℕ} {at r : ℕ} where
   unfolding answered
   answer-reply h {n} e w = rw (ne-eqb long 0 h, ← first-bytes n long s e) w
 
-pub told-short : (name : List ℕ) (n : ℕ) → length name ≤ 7 → n < 100 → length (told name n) ≤ 96
+pub report-alert : (number long : ℕ) (s : List ℕ) {b c o : List ℕ} {at q r : ℕ} → Wrote b at (told (text "report ") number) c q
+    → {n : ℕ} → n ≡ min long (length s) → Wrote c q (take n s) o r → Wrote b at (reported number long s) o r
+unfolding reported
+report-alert number long s v {n} e w = v ▸ (rw (first-bytes n long s e) at w)
+
+pub told-short : (name : List ℕ) (n : ℕ) → length name ≤ 7 → n < 100 → length (told name n) ≤ 10
 unfolding told text
 told-short name n h k = rw (length-append, length-append) (omega (arith, digits-length 1 n k))
 

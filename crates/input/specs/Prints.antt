@@ -17,6 +17,10 @@ isReport p = same (take 1 p) (text "R")
 unfoldable pub told : List ℕ → ℕ → List ℕ
 told name n = name ++ digits n ++ text "\n"
 
+-- "it prints `report N`", and 02, order 5: "the bench prints it after `report N`": the alert's bytes stand at the front of its buffer
+unfoldable pub reported : ℕ → ℕ → List ℕ → List ℕ
+reported number long buffer = told (text "report ") number ++ take long buffer
+
 -- "prints the reply, or `silent N`": the reply's bytes stand at the front of its buffer
 unfoldable pub answered : ℕ → ℕ → List ℕ → List ℕ
 answered number long buffer = cond (eqb long 0) (told (text "silent ") number) (take long buffer)

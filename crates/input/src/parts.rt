@@ -5,7 +5,7 @@ ghost use Prim.Native.Nat.{_+_};
 ghost use lib.ListN.{drop};
 ghost use Rattle.buffer.specs.Wrote.{Wrote};
 ghost use Rattle.input.specs.Parts.{firstPart};
-ghost use Rattle.input.specs.Prints.{isReport, told, answered, caret};
+ghost use Rattle.input.specs.Prints.{isReport, told, reported, answered, caret};
 use buffer::put_byte;
 use buffer::put_number;
 use buffer::put_text;
@@ -43,6 +43,14 @@ pub fn put_told(out: &mut [u8], at: usize, name: &[u8], n: u8) -> usize
     let number = put_text(out, at, name);
     let end = put_number(out, number, n as u64);
     put_byte(out, end, 10)
+}
+
+// What a report came to, and the first bytes of its alert's buffer behind that.
+pub fn put_reported(out: &mut [u8], at: usize, number: u8, long: usize, alert: &[u8]) -> usize
+    ensures { λ r. ⌜ Wrote (now (out .entry)) at (reported number long (now (alert .entry))) (now (out .exit)) r ⌝ }
+{
+    let end = put_told(out, at, b"report ", number);
+    put_text(out, end, &alert[..lesser(long, alert.len())])
 }
 
 // The first bytes of a reply's buffer, or the number of the silence where there are none.

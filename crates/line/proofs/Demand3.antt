@@ -56,6 +56,7 @@ read-first (w ∷ t) e = by-entry unknown NoNumber (w .bytes) (firsts t) e no-co
     also (λ q. (refl, refl))
     also (λ q. (refl, refl))
     also (λ q. (refl, refl))
+    also (λ q. (refl, refl))
     also Each.none)
 
 pub first-word : {ws : List (List ℕ)} {c : Command} {es : List (List ℕ)} → Row ws c es → NoNumber (headWord ws)

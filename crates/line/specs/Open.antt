@@ -36,7 +36,7 @@ openCommand = 0
 
 unfoldable openPhrase : ℕ
 unfolding Phrase.ended Phrase.oneNumber Phrase.readMove Phrase.readSetting Phrase.readGet Phrase.readSet Phrase.readStorepos
-    Phrase.readParking Phrase.readTools Phrase.readWarnings Phrase.readCommand
+    Phrase.readParking Phrase.readTools Phrase.readWarnings Phrase.readHelp Phrase.readCommand
 openPhrase = 0
 
 unfoldable openLine : ℕ

@@ -16,7 +16,7 @@ use Rattle.words.specs.Cutting.{Placed, placed, bytesOf}
 use Rattle.words.specs.Find.{Entry, meaningOf}
 use Rattle.command.specs.Settings.{readOnly}
 use Rattle.command.specs.declared.AxisCommand.the-variants.{Home, Stop, Estop, MoveTo, WarningsClear}
-use Rattle.command.specs.declared.DeviceCommand.the-variants.{ParkingState, Park, Unpark}
+use Rattle.command.specs.declared.DeviceCommand.the-variants.{ParkingState, Park, Unpark, Help}
 use Rattle.command.specs.declared.Command.{Command}
 use Rattle.command.specs.declared.Command.the-variants.{OfAxes, OfDevice}
 use Rattle.command.specs.declared.Target.the-variants.{Min, Max}
@@ -25,7 +25,7 @@ use Rattle.phrase.specs.declared.Numbered.{Numbered}
 use Rattle.phrase.specs.declared.Numbered.the-variants as With
 use Rattle.phrase.specs.declared.SettingRead.{SettingRead}
 use Rattle.phrase.specs.declared.SettingRead.the-variants.{Is, Unknown}
-use Rattle.phrase.specs.Reading.{ended, made, oneNumber, moves, readMove, readSetting, readGet, readSet, readStorepos, parkings, readParking, tools, readTools, readWarnings, firsts, readCommand}
+use Rattle.phrase.specs.Reading.{ended, made, oneNumber, moves, readMove, readSetting, readGet, readSet, readStorepos, parkings, readParking, tools, readTools, readWarnings, readHelp, firsts, readCommand}
 use Rattle.phrase.specs.declared.WordsRead.{WordsRead}
 use Rattle.phrase.specs.Refusals.{beginSo, justSo, isNumber, badCommand, badData, wordsNumber, wordsRefusal}
 use Rattle.phrase.specs.Place.{otherWordsFit, orElse, firstRefused, placeAmong, wordsPlace, placeTold}
@@ -169,11 +169,18 @@ module _ (i : ℕ) where
   warnings-agrees : (ws : List Placed) → Agrees (placed i (text "warnings") ∷ ws)
   unfolding readCommand readWarnings meaningOf tables
   warnings-agrees [] = (refl, refl)
-  warnings-agrees (u ∷ t) = go (same (u .bytes) (text "clear")) refl
-    where
-      go : (b : Bool) → same (u .bytes) (text "clear") ≡ b → Agrees (placed i (text "warnings") ∷ u ∷ t)
-      go true e = rw e (ended-fits (OfAxes WarningsClear) t)
-      go false e = rw e (refl, refl)
+  warnings-agrees (u ∷ t) =
+      among (λ (v : List ℕ). Agrees (placed i (text "warnings") ∷ placed (u .start) v ∷ t)) (u .bytes) {vs = text "clear" ∷ []}
+      (ended-fits (OfAxes WarningsClear) t also none)
+      (λ d. simp (d .0) (refl, refl))
+
+  help-agrees : (ws : List Placed) → Agrees (placed i (text "help") ∷ ws)
+  unfolding readCommand readHelp meaningOf tables
+  help-agrees [] = (refl, refl)
+  help-agrees (u ∷ t) =
+      among (λ (v : List ℕ). Agrees (placed i (text "help") ∷ placed (u .start) v ∷ t)) (u .bytes) {vs = text "commands" ∷ []}
+      (ended-fits (OfDevice Help) t also none)
+      (λ d. simp (d .0) (refl, refl))
 
 first-agrees : (w : Placed) (t : List Placed) → Agrees (w ∷ t)
 unfolding readCommand meaningOf tables
@@ -186,6 +193,7 @@ first-agrees w t = among (λ (v : List ℕ). Agrees (placed (w .start) v ∷ t))
     also set-agrees (w .start) t
     also tools-agrees (w .start) t
     also warnings-agrees (w .start) t
+    also help-agrees (w .start) t
     also none)
     (λ d. simp (
       d .0,
@@ -196,6 +204,7 @@ first-agrees w t = among (λ (v : List ℕ). Agrees (placed (w .start) v ∷ t))
       d .1 .1 .1 .1 .1 .0,
       d .1 .1 .1 .1 .1 .1 .0,
       d .1 .1 .1 .1 .1 .1 .1 .0,
+      d .1 .1 .1 .1 .1 .1 .1 .1 .0,
     ) (refl, refl))
 
 agrees : (ws : List Placed) → Agrees ws

@@ -29,9 +29,7 @@ use Rattle.command.specs.declared.AxisSetting.the-variants as AxisSetting
 use Rattle.command.specs.declared.DeviceSetting.the-variants as DeviceSetting
 use Rattle.command.specs.declared.Setting.{Setting}
 use Rattle.command.specs.declared.Setting.the-variants.{OfAxis, OfDevice}
-use Rattle.command.specs.declared.AxisCommand.the-variants.{WarningsClear}
 use Rattle.command.specs.declared.Command.{Command}
-use Rattle.command.specs.declared.Command.the-variants.{OfAxes}
 use Rattle.phrase.specs.declared.SettingRead.{SettingRead}
 use Rattle.phrase.specs.declared.SettingRead.the-variants.{Is, Unknown}
 use Rattle.phrase.specs.declared.Numbered.{Numbered}
@@ -40,7 +38,7 @@ use Rattle.phrase.specs.declared.WordsRead.{WordsRead}
 use Rattle.phrase.specs.declared.WordsRead.the-variants.{Refused}
 use Rattle.phrase.specs.declared.WordsRead.the-variants as Words
 use Rattle.phrase.specs.Spelling.{Row}
-use Rattle.phrase.specs.Reading.{unknown, misspelt, ended, numbered, made, oneNumber, moves, readMove, settings, named, names, readSetting, getOf, readGet, setOf, readSet, storeAt, readStorepos, parkings, readParking, tools, readTools, readWarnings, firsts, readCommand}
+use Rattle.phrase.specs.Reading.{unknown, misspelt, ended, numbered, made, oneNumber, moves, readMove, settings, named, names, readSetting, getOf, readGet, setOf, readSet, storeAt, readStorepos, parkings, readParking, tools, readTools, readWarnings, readHelp, firsts, readCommand}
 use Rattle.phrase.proofs.Among.{_also_}
 
 -- ---- what is spelled is read
@@ -117,7 +115,7 @@ row-told : (at : ℕ → ℕ) {ws : List (List ℕ)} {c : Command} {es : List (L
     → (readCommand (standing at ws) ≡ Words.Command c (echoPlace c (standing at ws)))
     × (echoOf c ws ≡ es)
     × ((not (carriesWords c) || Begun ws) ≡ true)
-unfolding readCommand readMove readGet readSet readTools readStorepos readParking readWarnings ended meaningOf same text echoOf
+unfolding readCommand readMove readGet readSet readTools readStorepos readParking readWarnings readHelp ended meaningOf same text echoOf
 row-told at Row.nothing = (refl, refl, refl)
 row-told at Row.home = (refl, refl, refl)
 row-told at Row.stop = (refl, refl, refl)
@@ -141,6 +139,7 @@ row-told at Row.parking-state = (refl, refl, refl)
 row-told at Row.park = (refl, refl, refl)
 row-told at Row.unpark = (refl, refl, refl)
 row-told at Row.echo = (refl, refl, refl)
+row-told at Row.help = (refl, refl, refl)
 
 pub row-standing : (at : ℕ → ℕ) {ws : List (List ℕ)} {c : Command} {es : List (List ℕ)} → Row ws c es
     → readCommand (standing at ws) ≡ Words.Command c (echoPlace c (standing at ws))
@@ -302,15 +301,24 @@ behind-tools (u ∷ t) {c} e =
     by-entry unknown (λ (v : List ℕ). Spelled (text "tools" ∷ v ∷ bytesOf t) c) (u .bytes) (tools (behind u) t) e no-command
     (after-storepos t also behind-parking t also (λ q. put refl (cc) Row.echo) also none)
 
+-- a word u behind the first word v: x where it is w, and 11 where it is not
+word-row : (v w : List ℕ) (u : List ℕ) (t : List Placed) {x c : Command} {q : ℕ} → Row (v ∷ w ∷ []) x []
+    → cond (same u w) (ended x t) misspelt ≡ Words.Command c q → Spelled (v ∷ u ∷ bytesOf t) c
+word-row v w u t {x} {c} {q} r e = go (same u w) refl e
+  where
+    go : (b : Bool) → same u w ≡ b → cond b (ended x t) misspelt ≡ Words.Command c q → Spelled (v ∷ u ∷ bytesOf t) c
+    go true q e = rw (same-true u w q) (ended-row (v ∷ w ∷ []) t r e)
+    go false q e = no-command e
+
 after-warnings : (t : List Placed) {c : Command} {q : ℕ} → readWarnings t ≡ Words.Command c q → Spelled (text "warnings" ∷ bytesOf t) c
 unfolding readWarnings
 after-warnings [] e = put refl (cc) Row.warnings
-after-warnings (u ∷ t) {c} {q} e = go (same (u .bytes) (text "clear")) refl e
-  where
-    go : (b : Bool) → same (u .bytes) (text "clear") ≡ b → cond b (ended (OfAxes WarningsClear) t) misspelt ≡ Words.Command c q
-        → Spelled (text "warnings" ∷ u .bytes ∷ bytesOf t) c
-    go true q e = rw (same-true (u .bytes) (text "clear") q) (ended-row (text "warnings" ∷ text "clear" ∷ []) t Row.warnings-clear e)
-    go false q e = no-command e
+after-warnings (u ∷ t) e = word-row (text "warnings") (text "clear") (u .bytes) t Row.warnings-clear e
+
+after-help : (t : List Placed) {c : Command} {q : ℕ} → readHelp t ≡ Words.Command c q → Spelled (text "help" ∷ bytesOf t) c
+unfolding readHelp
+after-help [] e = no-command e
+after-help (u ∷ t) e = word-row (text "help") (text "commands") (u .bytes) t Row.help e
 
 spelled : (q : ℕ) (ws : List Placed) (c : Command) → readCommand ws ≡ Words.Command c q → Spelled (bytesOf ws) c
 unfolding readCommand
@@ -324,6 +332,7 @@ spelled q (w ∷ t) c e = by-entry unknown (λ (v : List ℕ). Spelled (v ∷ by
     also behind-set t
     also behind-tools t
     also after-warnings t
+    also after-help t
     also none)
 
 pub row-of : (q : ℕ) (ws : List Placed) (c : Command) → readCommand ws ≡ Words.Command c q → Row (bytesOf ws) c (echoOf c (bytesOf ws))

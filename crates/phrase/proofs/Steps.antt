@@ -1,6 +1,6 @@
 -- The cases of the reading of a command's words, as the tests of the code have them.
 -- Assumes nothing.
-use mathlib.Core.Path.{_≡_, sym, ap, subst, _∙_}
+use mathlib.Core.Path.{_≡_, refl, sym, ap, subst, _∙_}
 use mathlib.Core.Logic.{⊎-elim}
 use mathlib.Core.Bool.{true, false}
 use mathlib.Core.List.{List, [], _∷_}
@@ -10,6 +10,7 @@ use mir.Syntax.{w64}
 use mir.Val.{Fits}
 use lib.ListN.{length, take, drop, length-take}
 use Rattle.laws.specs.Text.{text, same}
+use Rattle.laws.proofs.Bools.{clash}
 use Rattle.laws.proofs.Order.{eq-or-ne}
 use Rattle.numbers.specs.Reading.{readNumber}
 use Rattle.numbers.specs.declared.NumberRead.{NumberRead}
@@ -20,14 +21,15 @@ use Rattle.words.specs.Find.{meaningOf}
 use Rattle.words.specs.declared.Word.{Word}
 use Rattle.words.proofs.Cut.{word-whole, word-within, words-empty, words-full, word-behind, words-none, words-some}
 use Rattle.command.specs.declared.AxisCommand.the-variants.{Nothing, Warnings, WarningsClear}
+use Rattle.command.specs.declared.DeviceCommand.the-variants.{Help}
 use Rattle.command.specs.declared.Command.{Command}
-use Rattle.command.specs.declared.Command.the-variants.{OfAxes}
+use Rattle.command.specs.declared.Command.the-variants.{OfAxes, OfDevice}
 use Rattle.phrase.specs.declared.SettingRead.{SettingRead}
 use Rattle.phrase.specs.declared.Numbered.{Numbered}
 use Rattle.phrase.specs.declared.Numbered.the-variants as With
 use Rattle.phrase.specs.declared.WordsRead.{WordsRead}
 use Rattle.phrase.specs.declared.WordsRead.the-variants as Words
-use Rattle.phrase.specs.Reading.{unknown, misspelt, ended, made, oneNumber, moves, readMove, readSetting, getOf, readGet, setOf, readSet, storeAt, readStorepos, parkings, readParking, tools, readTools, readWarnings, firsts, readCommand}
+use Rattle.phrase.specs.Reading.{unknown, misspelt, ended, made, oneNumber, moves, readMove, readSetting, getOf, readGet, setOf, readSet, storeAt, readStorepos, parkings, readParking, tools, readTools, readWarnings, readHelp, firsts, readCommand}
 use Rattle.phrase.specs.Place.{Places}
 use Rattle.phrase.proofs.Rows.{setting-none}
 
@@ -83,6 +85,16 @@ module _ (s : List ℕ) (at : ℕ) {w : Word} (is : w ≡ wordAt s at) where
   unfolding readSet
   set-word {x} {r} = by-word (λ v e ws. x ≡ readSetting v → r ≡ setOf x rest → r ≡ readSet ws)
       (λ q z. z ∙ rw (q, setting-none)) (λ q z. z ∙ ap (λ (y : SettingRead). setOf y rest) q)
+
+  -- it is `commands`, or another or none
+  pub help-commands : {r : WordsRead} → same first (text "commands") ≡ true → r ≡ ended (OfDevice Help) rest → r ≡ readHelp words
+  unfolding readHelp same text
+  help-commands {r} = by-word (λ v e ws. same v (text "commands") ≡ true → r ≡ ended (OfDevice Help) rest → r ≡ readHelp ws)
+      (λ t z. clash t refl) (λ t z. rw t z)
+
+  pub help-other : same first (text "commands") ≡ false → misspelt ≡ readHelp words
+  unfolding readHelp
+  help-other = by-word (λ v e ws. same v (text "commands") ≡ false → misspelt ≡ readHelp ws) (λ t. refl) (λ t. rw t)
 
   -- there is none: `warnings` alone; no word at all; a number that is missing
   module _ (e : w .start ≡ w .end) where

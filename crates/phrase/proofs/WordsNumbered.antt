@@ -19,7 +19,7 @@ use Rattle.phrase.specs.declared.SettingRead.{SettingRead}
 use Rattle.phrase.specs.declared.SettingRead.the-variants.{Is, Unknown}
 use Rattle.phrase.specs.declared.WordsRead.{WordsRead}
 use Rattle.phrase.specs.declared.WordsRead.the-variants as Words
-use Rattle.phrase.specs.Reading.{ended, made, oneNumber, readMove, readSetting, getOf, readGet, setOf, readSet, storeAt, readStorepos, readParking, readTools, readWarnings, readCommand}
+use Rattle.phrase.specs.Reading.{ended, made, oneNumber, readMove, readSetting, getOf, readGet, setOf, readSet, storeAt, readStorepos, readParking, readTools, readWarnings, readHelp, readCommand}
 use Rattle.phrase.proofs.Among.{_also_}
 
 -- the numbers that words are refused with; and the places of each
@@ -116,6 +116,11 @@ unfolding readWarnings
 warnings-numbered [] = tt
 warnings-numbered (w ∷ ws) = either NumberedWords (same (w .bytes) (text "clear")) (end _ ws) a-place
 
+help-numbered : (ws : List Placed) → NumberedWords (readHelp ws)
+unfolding readHelp
+help-numbered [] = a-place
+help-numbered (w ∷ ws) = either NumberedWords (same (w .bytes) (text "commands")) (end _ ws) a-place
+
 -- What the words of a command are refused with is 10 or 11.
 pub words-numbered : (ws : List Placed) → NumberedWords (readCommand ws)
 unfolding readCommand
@@ -130,4 +135,5 @@ words-numbered (w ∷ ws) =
     also set-numbered ws
     also tools-numbered ws
     also warnings-numbered ws
+    also help-numbered ws
     also none)

@@ -58,6 +58,7 @@ row-filled (OfDevice Device.ParkingState) es n p w = Row.parking-state
 row-filled (OfDevice Device.Park) es n p w = Row.park
 row-filled (OfDevice Device.Unpark) es n p w = Row.unpark
 row-filled (OfDevice Device.Echo) es n p w = Row.echo
+row-filled (OfDevice Device.Help) es n p w = Row.help
 
 only-carried : (b : Bool) (es : List (List ℕ)) → (b ≡ false → es ≡ []) → cond b es [] ≡ es
 only-carried true es h = refl

@@ -17,7 +17,7 @@ use Rattle.command.specs.declared.Setting.{Setting}
 use Rattle.command.specs.declared.Setting.the-variants as Setting
 use Rattle.command.specs.declared.Target.the-variants.{Abs, Rel, Min, Max, Stored}
 use Rattle.command.specs.declared.AxisCommand.the-variants.{Nothing, Home, Stop, Estop, MoveTo, MoveVel, Storepos, StoreposAt, StoreposCurrent, Warnings, WarningsClear}
-use Rattle.command.specs.declared.DeviceCommand.the-variants.{ParkingState, Park, Unpark, Echo}
+use Rattle.command.specs.declared.DeviceCommand.the-variants.{ParkingState, Park, Unpark, Echo, Help}
 use Rattle.command.specs.declared.Command.{Command}
 use Rattle.command.specs.declared.Command.the-variants.{OfAxes, OfDevice}
 use Rattle.command.specs.Commands.{getCommand, setCommand}
@@ -158,6 +158,11 @@ unfoldable pub readWarnings : List Placed → WordsRead
 readWarnings [] = Words.Command (OfAxes Warnings) 0
 readWarnings (w ∷ ws) = cond (same (w .bytes) (text "clear")) (ended (OfAxes WarningsClear) ws) misspelt
 
+-- behind `help`
+unfoldable pub readHelp : List Placed → WordsRead
+readHelp [] = misspelt
+readHelp (w ∷ ws) = cond (same (w .bytes) (text "commands")) (ended (OfDevice Help) ws) misspelt
+
 -- the first word
 abbrev pub firsts : List Placed → List (Entry WordsRead)
 firsts ws =
@@ -169,6 +174,7 @@ firsts ws =
     ∷ text "set" means readSet ws
     ∷ text "tools" means readTools ws
     ∷ text "warnings" means readWarnings ws
+    ∷ text "help" means readHelp ws
     ∷ []
 
 unfoldable pub readCommand : List Placed → WordsRead

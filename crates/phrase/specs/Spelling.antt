@@ -13,7 +13,7 @@ use Rattle.command.specs.declared.DeviceSetting.{DeviceSetting}
 use Rattle.command.specs.declared.Setting.the-variants as Setting
 use Rattle.command.specs.declared.Target.the-variants.{Abs, Rel, Min, Max, Stored}
 use Rattle.command.specs.declared.AxisCommand.the-variants.{Nothing, Home, Stop, Estop, MoveTo, MoveVel, Get, Set, Storepos, StoreposAt, StoreposCurrent, Warnings, WarningsClear}
-use Rattle.command.specs.declared.DeviceCommand.the-variants.{ParkingState, Park, Unpark, Echo}
+use Rattle.command.specs.declared.DeviceCommand.the-variants.{ParkingState, Park, Unpark, Echo, Help}
 use Rattle.command.specs.declared.DeviceCommand.the-variants as Device
 use Rattle.command.specs.declared.Command.{Command}
 use Rattle.command.specs.declared.Command.the-variants.{OfAxes, OfDevice}
@@ -50,3 +50,5 @@ pub data Row : List (List ℕ) → Command → List (List ℕ) → Type 0 where
   unpark : Row (text "tools" ∷ text "parking" ∷ text "unpark" ∷ []) (OfDevice Unpark) []
   -- "An echo command carries its words as a list."
   echo : {ws : List (List ℕ)} → Row (text "tools" ∷ text "echo" ∷ ws) (OfDevice Echo) ws
+  -- 02, order 5
+  help : Row (text "help" ∷ text "commands" ∷ []) (OfDevice Help) []

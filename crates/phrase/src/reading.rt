@@ -3,13 +3,14 @@
 ghost use mathlib.Core.Path.{_≡_};
 ghost use Rattle.words.specs.Cutting.{bytesOf, wordsAt};
 ghost use Rattle.words.specs.Find.{meaningOf};
-ghost use Rattle.phrase.specs.Reading.{unknown, readWarnings, firsts, readCommand};
+ghost use Rattle.phrase.specs.Reading.{unknown, readWarnings, readHelp, firsts, readCommand};
 ghost use Rattle.phrase.specs.Refusals.{wordsNumber, wordsRefusal};
 ghost use Rattle.phrase.specs.Place.{placeTold, wordsPlace};
 use crate::WordsRead;
 use crate::operand::ended_at;
 use command::AxisCommand;
 use command::Command;
+use command::DeviceCommand;
 use laws::BADCOMMAND;
 use laws::BADDATA;
 use laws::NOWHERE;
@@ -26,6 +27,17 @@ fn read_warnings(s: &[u8], at: usize) -> WordsRead
     }
     if same_bytes(&s[start..end], b"clear") {
         return ended_at(s, end, Command::OfAxes(AxisCommand::WarningsClear));
+    }
+    WordsRead::Refused(BADDATA, NOWHERE)
+}
+
+// The words behind `help`.
+fn read_help(s: &[u8], at: usize) -> WordsRead
+    ensures { λ r. ⌜ r ≡ readHelp (wordsAt (now (s .entry)) at) ⌝ }
+{
+    let Word { start, end } = words::word_at(s, at);
+    if same_bytes(&s[start..end], b"commands") {
+        return ended_at(s, end, Command::OfDevice(DeviceCommand::Help));
     }
     WordsRead::Refused(BADDATA, NOWHERE)
 }
@@ -57,6 +69,9 @@ fn first_of(s: &[u8], at: usize, w: &[u8]) -> WordsRead
     }
     if same_bytes(w, b"warnings") {
         return read_warnings(s, at);
+    }
+    if same_bytes(w, b"help") {
+        return read_help(s, at);
     }
     WordsRead::Refused(BADCOMMAND, NOWHERE)
 }

@@ -51,7 +51,7 @@ fn replay(k: u8) {
 
 fn main() {
     let mut k: u8 = 0;
-    while k < 44 {
+    while k < 45 {
         replay(k);
         k += 1;
     }

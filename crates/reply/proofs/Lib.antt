@@ -5,3 +5,4 @@ pub mod Lengths
 pub mod Texts
 pub mod Room
 pub mod Telling
+pub mod HelpTexts

@@ -4,6 +4,7 @@ use mathlib.Core.Bool.{Bool, cond}
 use mathlib.Core.List.{List, [], _∷_, _++_}
 use Prim.Native.Nat.{ℕ}
 use lib.ListN.{getD}
+use Rattle.laws.specs.Lists.{fold}
 use Rattle.laws.specs.Text.{text, spaced}
 use Rattle.numbers.specs.Checksum.{sumText}
 use Rattle.numbers.specs.Decimal.{digits, twoDigits}
@@ -35,6 +36,10 @@ bodyOf address axis ws = spaced (twoDigits address ∷ digits axis ∷ ws)
 -- its mark; that, "summed from after the `@`"; and its end
 abbrev pub message : List ℕ → List ℕ → Bool → List ℕ
 message mark s sum = mark ++ s ++ ending sum s
+
+-- messages one behind the other
+unfoldable pub joined : List (List ℕ) → List ℕ
+joined ts = fold _++_ [] (λ t. t) ts
 
 -- "`@`, address in two digits, axis, OK or RJ, IDLE or BUSY, highest warning or `--`, data"
 unfoldable pub body : Head → List ℕ → List ℕ

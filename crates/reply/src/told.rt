@@ -4,7 +4,7 @@ ghost use mathlib.Core.Path.{_≡_};
 ghost use lib.ListN.{getD};
 ghost use Rattle.buffer.specs.Wrote.{Wrote};
 ghost use Rattle.reply.specs.Data.{values};
-ghost use Rattle.reply.specs.Told.{fourOf, listedOf, carried as carriedOf, toldText};
+ghost use Rattle.reply.specs.Told.{fourOf, listedOf, carried as carriedOf, toldText, informs as informsOf};
 use crate::data::put_echo;
 use crate::data::put_refusal;
 use crate::data::put_warnings;
@@ -24,7 +24,7 @@ pub struct Listed {
 }
 
 // 0; one value; the values of axes; the warnings of a mask; whether the device is parked; the words that stand in the line
-// from a place to another; the name of a refusal.
+// from a place to another; the name of a refusal; 0, with info lines behind the reply.
 pub enum Told {
     Nought,
     One(Number),
@@ -33,6 +33,19 @@ pub enum Told {
     Parked(bool),
     Words(usize, usize),
     Name(u8),
+    Info,
+}
+
+impl Told {
+    // Do info lines stand behind the reply?
+    pub fn informs(self) -> bool
+        ensures { λ r. ⌜ r ≡ informsOf self ⌝ }
+    {
+        match self {
+            Told::Info => true,
+            _ => false,
+        }
+    }
 }
 
 // The value at a place from 0; the fourth from 3 on.
@@ -84,5 +97,6 @@ pub fn put_told(buf: &mut [u8], at: usize, x: Told, line: &[u8]) -> usize
         Told::Parked(p) => put_byte(buf, at, b'0' + p as u8),
         Told::Words(from, end) => put_echo(buf, at, carried(line, from, end), 0),
         Told::Name(n) => put_refusal(buf, at, n),
+        Told::Info => put_byte(buf, at, b'0'),
     }
 }

@@ -7,4 +7,5 @@ pub mod Rejecting
 pub mod ReadWords
 pub mod Shown
 pub mod ReplyReadsBack
+pub mod AlertReadsBack
 pub mod ChainReadsBack

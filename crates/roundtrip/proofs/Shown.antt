@@ -89,6 +89,7 @@ module _ (d : Device) (k : ℕ) (four : length (d .axes) ≡ 4) (some : 1 ≤ d 
       go true = one-data (word-of (text "1") refl)
       go false = one-data (word-of (text "0") refl)
   text-said h f Kind.Words = echoed-data h
+  text-said h f Kind.Info = one-data (word-of (text "0") refl)
 
 pub data-said : {ws : List (List ℕ)} (d : Device) (k : ℕ) (c : Command) → length (d .axes) ≡ 4 → good d ≡ true → refusal d k c ≡ 0
     → Each Word ws → Data (dataOf d k ws c)

@@ -13,7 +13,7 @@ use Rattle.laws.proofs.Bools.{and-right}
 use Rattle.laws.proofs.Walks.{change-beyond, length-change}
 use Rattle.units.specs.Units.{place}
 use Rattle.command.specs.declared.DeviceCommand.{DeviceCommand}
-use Rattle.command.specs.declared.DeviceCommand.the-variants.{Get, Set, ParkingState, Park, Unpark, Echo}
+use Rattle.command.specs.declared.DeviceCommand.the-variants.{Get, Set, ParkingState, Park, Unpark, Echo, Help}
 use Rattle.command.specs.declared.Command.{Command}
 use Rattle.command.specs.declared.Command.the-variants.{OfAxes, OfDevice}
 use Rattle.settings.specs.Types.{Number, CommAddress, CommAlert, CommChecksum, SystemAccess, DeviceId, SystemAxisCount}
@@ -57,6 +57,7 @@ after-keeps ParkingState d = (refl, refl)
 after-keeps Park d = (refl, refl)
 after-keeps Unpark d = (refl, refl)
 after-keeps Echo d = (refl, refl)
+after-keeps Help d = (refl, refl)
 
 beyond-next : (d : Device) (k : ℕ) (c : Command) (i : ℕ) → badAxis d k ≡ false → d .count ≤ i → at (next d k c) i ≡ at d i
 unfolding next badAxis onAxes many

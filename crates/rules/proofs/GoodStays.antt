@@ -15,7 +15,7 @@ use Rattle.laws.proofs.Walks.{nth, all-where, none-after}
 use Rattle.units.specs.Units.{place}
 use Rattle.command.specs.declared.AxisCommand.{AxisCommand}
 use Rattle.command.specs.declared.DeviceCommand.{DeviceCommand}
-use Rattle.command.specs.declared.DeviceCommand.the-variants.{Get, Set, ParkingState, Park, Unpark, Echo}
+use Rattle.command.specs.declared.DeviceCommand.the-variants.{Get, Set, ParkingState, Park, Unpark, Echo, Help}
 use Rattle.command.specs.declared.Command.{Command}
 use Rattle.command.specs.declared.Command.the-variants.{OfAxes, OfDevice}
 use Rattle.command.specs.Commands.{demands}
@@ -201,6 +201,7 @@ module _ (d : Device) (k : ℕ) (h : Good d) where
   device-after Park e = with-parked true d h (ap not (none-moving e))
   device-after Unpark e = with-parked false d h refl
   device-after Echo e = h
+  device-after Help e = h
 
   next-good : (c : Command) → refusal d k c ≡ 0 → Good (next d k c)
   unfolding next

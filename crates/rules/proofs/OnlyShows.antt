@@ -7,7 +7,7 @@ use Prim.Native.Nat.{ℕ, _-_}
 use Rattle.laws.proofs.Bools.{clash}
 use Rattle.laws.proofs.Walks.{all-alike, change-same}
 use Rattle.command.specs.declared.DeviceCommand.{DeviceCommand}
-use Rattle.command.specs.declared.DeviceCommand.the-variants.{Get, Set, ParkingState, Park, Unpark, Echo}
+use Rattle.command.specs.declared.DeviceCommand.the-variants.{Get, Set, ParkingState, Park, Unpark, Echo, Help}
 use Rattle.command.specs.declared.Command.{Command}
 use Rattle.command.specs.declared.Command.the-variants.{OfAxes, OfDevice}
 use Rattle.command.specs.Commands.{demands}
@@ -27,6 +27,7 @@ device-shows ParkingState h d = (refl, refl)
 device-shows Park h d = clash h refl
 device-shows Unpark h d = clash h refl
 device-shows Echo h d = (refl, refl)
+device-shows Help h d = (refl, refl)
 
 pub shows-permitted : (d : Device) (k : ℕ) (c : Command) → demands c .shows ≡ true → badData d k c ≡ false
 unfolding badData

@@ -4,7 +4,7 @@ use mathlib.Core.Bool.{true, false, cond, not, _&&_}
 use Prim.Native.Nat.{ℕ}
 use lib.Dec.{eqb}
 use Rattle.command.specs.declared.DeviceCommand.{DeviceCommand}
-use Rattle.command.specs.declared.DeviceCommand.the-variants.{Get, Set, ParkingState, Park, Unpark, Echo}
+use Rattle.command.specs.declared.DeviceCommand.the-variants.{Get, Set, ParkingState, Park, Unpark, Echo, Help}
 use Rattle.command.specs.declared.Command.{Command}
 use Rattle.command.specs.declared.Command.the-variants.{OfAxes, OfDevice}
 use Rattle.axis.specs.Commands.{axisAfter, unparks}
@@ -21,6 +21,7 @@ deviceAfter ParkingState d = d
 deviceAfter Park d = withParked true d
 deviceAfter Unpark d = withParked false d
 deviceAfter Echo d = d
+deviceAfter Help d = d
 
 -- the next record: each axis that the number k means is changed, and a parked device stays so unless the command unparks; or the
 -- device is changed

@@ -8,7 +8,7 @@ use Rattle.laws.specs.Lists.{all, any}
 use Rattle.laws.specs.Refusals.{Refusal, _when_, firstOf, BADCOMMAND, BADDATA, BADAXIS, DEVICEONLY, NOACCESS, PARKED, STATUSBUSY}
 use Rattle.units.specs.Units.{place}
 use Rattle.command.specs.declared.DeviceCommand.{DeviceCommand}
-use Rattle.command.specs.declared.DeviceCommand.the-variants.{Get, Set, ParkingState, Park, Unpark, Echo}
+use Rattle.command.specs.declared.DeviceCommand.the-variants.{Get, Set, ParkingState, Park, Unpark, Echo, Help}
 use Rattle.command.specs.declared.Command.{Command}
 use Rattle.command.specs.declared.Command.the-variants.{OfAxes, OfDevice}
 use Rattle.command.specs.declared.kinds.Demands.{Demands}
@@ -49,6 +49,7 @@ deviceTakes ParkingState = true
 deviceTakes Park = true
 deviceTakes Unpark = true
 deviceTakes Echo = true
+deviceTakes Help = true
 
 -- "value, target, reference or range"; "an all-axes command is accepted only if each axis permits it"
 unfoldable pub badData : Device → ℕ → Command → Bool

@@ -77,6 +77,7 @@ fn device_takes(c: DeviceCommand) -> bool
         DeviceCommand::Park => true,
         DeviceCommand::Unpark => true,
         DeviceCommand::Echo => true,
+        DeviceCommand::Help => true,
     }
 }
 

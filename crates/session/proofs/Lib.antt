@@ -1,3 +1,4 @@
+pub mod HelpLines
 pub mod Turns
 pub mod Room
 pub mod LongPart

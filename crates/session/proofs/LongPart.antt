@@ -17,6 +17,7 @@ use Rattle.input.specs.ReportLines.{readReport}
 use Rattle.input.specs.Prints.{isReport}
 use Rattle.device.specs.declared.Device.{Device}
 use Rattle.device.specs.Good.{good}
+use Rattle.reply.specs.Help.{longestAnswer}
 use Rattle.carriage.specs.Step.{step, respond, refusedAt}
 use Rattle.session.specs.Bench.{lineTurn, turn, shown}
 
@@ -42,7 +43,7 @@ pub long-part : (d : Device) (p : List ℕ) → 80 < length p → turn d (take 8
 unfolding turn lineTurn
 long-part d p h =
     let long : 80 < length (take 81 p) = rw length-take (omega (arith, h)) in
-    simp (same-front p, long-report p h, long-report (take 81 p) long, long-step d (take 81 p) p (replicate 96 0) long h)
+    simp (same-front p, long-report p h, long-report (take 81 p) long, long-step d (take 81 p) p (replicate longestAnswer 0) long h)
 
 long-place : (d : Device) (l : List ℕ) → 80 < length l → refusedAt d l ≡ NOWHERE
 unfolding refusedAt

@@ -6,35 +6,35 @@ use mathlib.Core.List.{List, [], _++_, append-nil, append-assoc}
 use Prim.Native.Nat.{ℕ, _+_, _-_, _≤_, _<_, min}
 use native.Mathlib.Omega.{arith}
 use lib.ListN.{length, take, drop, replicate, drop-of-length-le}
-use Rattle.laws.specs.Text.{text}
 use Rattle.laws.proofs.Answers.{one-answer}
 use Rattle.buffer.specs.Wrote.{Wrote}
 use Rattle.buffer.proofs.Wrote.{_▸_, wrote-none, wrote-one}
 use Rattle.device.specs.declared.Device.{Device}
-use Rattle.device.specs.declared.Outcome.{Outcome}
+use Rattle.reply.specs.Help.{longestAnswer}
 use Rattle.carriage.specs.declared.Answer.{Answer}
 use Rattle.carriage.specs.Step.{Gives, step, refusedAt}
 use Rattle.input.specs.declared.reports.ReportRead.{ReportRead}
 use Rattle.input.specs.ReportLines.{readReport}
 use Rattle.session.specs.declared.Turned.{Turned}
 use Rattle.input.specs.Parts.{parts, firstPart}
-use Rattle.input.specs.Prints.{isReport, told, answered, caret}
+use Rattle.input.specs.Prints.{isReport, reported, answered, caret}
 use Rattle.input.proofs.Parted.{part-inside, part-first}
 use Rattle.input.proofs.Prints.{first-bytes}
-use Rattle.session.specs.Bench.{Turn, Took, reportOutcome, lineTurn, reportTurn, turn, shown, turns, benchDevice, bench}
+use Rattle.session.specs.Bench.{Turn, Took, reportAnswer, lineTurn, reportTurn, turn, shown, turns, benchDevice, bench}
 
 -- ---- a line, a report
 module _ (d : Device) (p : List ℕ) {b o : List ℕ} {at r : ℕ} where
-  pub took-line : {a : Answer} {c : List ℕ} → Gives (step d p (replicate 96 0)) a c → Wrote b at (answered (a .number) (a .length) c) o r
+  pub took-line : {a : Answer} {c : List ℕ} → Gives (step d p (replicate longestAnswer 0)) a c
+      → Wrote b at (answered (a .number) (a .length) c) o r
       → Took (lineTurn d p) b at (record { place = r; next = a .next }) o
   unfolding lineTurn
   took-line g w = rw (← g .result, ← g .left) (record { prints = w; next = refl })
 
-  pub took-report : {q : ReportRead} {x : Outcome} → q ≡ readReport p → x ≡ reportOutcome d q
-      → Wrote b at (told (text "report ") (x .number)) o r
-      → Took (reportTurn d (readReport p)) b at (record { place = r; next = x .next }) o
+  pub took-report : {q : ReportRead} {a : Answer} {c : List ℕ} → q ≡ readReport p → Gives (reportAnswer d q (replicate 96 0)) a c
+      → Wrote b at (reported (a .number) (a .length) c) o r
+      → Took (reportTurn d (readReport p)) b at (record { place = r; next = a .next }) o
   unfolding reportTurn
-  took-report q e w = rw (← q, ← e) (record { prints = w; next = refl })
+  took-report q g w = rw (← q, ← g .result, ← g .left) (record { prints = w; next = refl })
 
 -- the promise of a turn leaves no choice
 pub took-one : {t : Turn} {b : List ℕ} {at : ℕ} {r q : Turned} {c o : List ℕ} → Took t b at r c → Took t b at q o → (r ≡ q) × (c ≡ o)

@@ -1,26 +1,25 @@
 -- What the program `bench` prints, from the bytes of its standard input to those of its standard output.
--- A part is a line or a motor report; it prints one line and makes the next record.
+-- A part is a line or a motor report; it prints one line, or several with info lines or an alert, and makes the next record.
 use mathlib.Core.Path.{_≡_}
 use mathlib.Core.Bool.{cond}
 use mathlib.Core.List.{List, [], _∷_, _++_}
 use Prim.Native.Nat.{ℕ}
 use lib.IntN.{pos as plus}
 use lib.ListN.{take, replicate}
-use Rattle.laws.specs.Text.{text}
 use Rattle.laws.specs.Refusals.{BADREPORT}
 use Rattle.units.specs.Units.{number}
 use Rattle.buffer.specs.Wrote.{Wrote}
 use Rattle.device.specs.declared.Device.{Device}
-use Rattle.device.specs.declared.Outcome.{Outcome}
 use Rattle.device.specs.Record.{fresh}
+use Rattle.reply.specs.Help.{longestAnswer}
 use Rattle.reply.specs.Reply.{longestReply}
-use Rattle.carriage.specs.Step.{step, refusedAt}
+use Rattle.carriage.specs.Step.{Stepped, silent, step, refusedAt}
 use Rattle.carriage.specs.Report.{report}
 use Rattle.input.specs.declared.reports.ReportRead.{ReportRead}
 use Rattle.input.specs.declared.reports.ReportRead.the-variants.{Report, Misspelt}
 use Rattle.input.specs.ReportLines.{readReport}
 use Rattle.input.specs.Parts.{parts}
-use Rattle.input.specs.Prints.{isReport, told, answered, caret}
+use Rattle.input.specs.Prints.{isReport, reported, answered, caret}
 use Rattle.session.specs.declared.Turned.{Turned}
 
 -- what a part prints, and the next record
@@ -29,18 +28,20 @@ pub record Turn : Type 0 where
   pub next : Device
 
 -- "22 if misspelt, over 80 bytes or without a footer"
-abbrev pub reportOutcome : Device → ReportRead → Outcome
-reportOutcome d Misspelt = record { number = BADREPORT; next = d }
-reportOutcome d (Report axis kind last) = report d axis kind last
+abbrev pub reportAnswer : Device → ReportRead → List ℕ → Stepped
+reportAnswer d Misspelt b = silent BADREPORT d b
+reportAnswer d (Report axis kind last) b = report d axis kind last b
 
--- "it prints `report N`"
+-- "it prints `report N`", and behind it the alert; the buffer that is lent has 96 bytes
 unfoldable pub reportTurn : Device → ReportRead → Turn
-reportTurn d r = record { prints = told (text "report ") (reportOutcome d r .number); next = reportOutcome d r .next }
+reportTurn d r =
+    let s = reportAnswer d r (replicate longestReply 0) in
+    record { prints = reported (s .answer .number) (s .answer .length) (s .buffer); next = s .answer .next }
 
--- "prints the reply, or `silent N`"; the buffer that is lent has 96 bytes
+-- "prints the reply, or `silent N`"; the buffer that is lent has 96 bytes for the reply and for each info line
 unfoldable pub lineTurn : Device → List ℕ → Turn
 lineTurn d p =
-    let s = step d p (replicate longestReply 0) in
+    let s = step d p (replicate longestAnswer 0) in
     record { prints = answered (s .answer .number) (s .answer .length) (s .buffer); next = s .answer .next }
 
 unfoldable pub turn : Device → List ℕ → Turn

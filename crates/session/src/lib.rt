@@ -2,18 +2,20 @@
 // specs/Bench.antt says what is printed, for every input.
 ghost use mathlib.Core.Path.{_≡_};
 ghost use Rattle.buffer.specs.Wrote.{Wrote};
+ghost use Rattle.carriage.specs.Step.{Gives};
 ghost use Rattle.input.specs.Parts.{parts as partsOf};
 ghost use Rattle.input.specs.ReportLines.{readReport};
-ghost use Rattle.session.specs.Bench.{Took, reportOutcome, reportTurn, lineTurn, turn as turnOf, shown, turns as turnsOf, bench, benchDevice as benchDeviceOf};
+ghost use Rattle.session.specs.Bench.{Took, reportAnswer, reportTurn, lineTurn, turn as turnOf, shown, turns as turnsOf, bench, benchDevice as benchDeviceOf};
+use carriage::Answer;
 use device::Device;
-use device::Outcome;
 use input::parts::is_report;
 use input::parts::part_end;
 use input::parts::put_answer;
 use input::parts::put_caret;
-use input::parts::put_told;
+use input::parts::put_reported;
 use input::reports::ReportRead;
 use laws::BADREPORT;
+use reply::LONGEST_ANSWER;
 use reply::LONGEST_REPLY;
 use units::Number;
 use units::lesser;
@@ -28,25 +30,27 @@ pub struct Turned {
 }
 
 // What a report makes of a record; 22 where it is misspelt.
-fn report_outcome(d: Device, r: ReportRead) -> Outcome
-    ensures { λ o. ⌜ o ≡ reportOutcome d r ⌝ }
+fn report_answer(d: Device, r: ReportRead, alert: &mut [u8]) -> Answer
+    ensures { λ a. ⌜ Gives (reportAnswer d r (now (alert .entry))) a (now (alert .exit)) ⌝ }
 {
     match r {
-        ReportRead::Misspelt => Outcome {
+        ReportRead::Misspelt => Answer {
             number: BADREPORT,
+            length: 0,
             next: d,
         },
-        ReportRead::Report(axis, kind, last) => carriage::report(d, axis, kind, last),
+        ReportRead::Report(axis, kind, last) => carriage::report(d, axis, kind, last, alert),
     }
 }
 
 fn report_turn(d: Device, part: &[u8], out: &mut [u8], at: usize) -> Turned
     ensures { λ t. ⌜ Took (reportTurn d (readReport (now (part .entry)))) (now (out .entry)) at t (now (out .exit)) ⌝ }
 {
-    let o = report_outcome(d, input::reports::read_report(part));
-    let next = o.next;
+    let mut alert = [0; LONGEST_REPLY];
+    let a = report_answer(d, input::reports::read_report(part), &mut alert);
+    let next = a.next;
     Turned {
-        place: put_told(out, at, b"report ", o.number),
+        place: put_reported(out, at, a.number, a.length, &alert),
         next,
     }
 }
@@ -54,7 +58,7 @@ fn report_turn(d: Device, part: &[u8], out: &mut [u8], at: usize) -> Turned
 fn line_turn(d: Device, part: &[u8], out: &mut [u8], at: usize) -> Turned
     ensures { λ t. ⌜ Took (lineTurn d (now (part .entry))) (now (out .entry)) at t (now (out .exit)) ⌝ }
 {
-    let mut reply = [0; LONGEST_REPLY];
+    let mut reply = [0; LONGEST_ANSWER];
     let a = carriage::step(d, part, &mut reply);
     let next = a.next;
     Turned {

@@ -3,6 +3,8 @@
 use device::Device;
 use input::reports::ReportRead;
 use libc::STDOUT_FILENO;
+use reply::LONGEST_ANSWER;
+use reply::LONGEST_REPLY;
 use units::Number;
 
 // What was done: how many steps, and a sum over what they answered.
@@ -15,8 +17,9 @@ fn say(steps: u64, sum: u64) {
 
 // Axis k reached home at 0.
 fn reached(d: Device, k: i32) -> Device {
-    let o = carriage::report(d, Number(k), Number(3), Number(0));
-    o.next
+    let mut alert = [0u8; LONGEST_REPLY];
+    let a = carriage::report(d, Number(k), Number(3), Number(0), &mut alert);
+    a.next
 }
 
 // All axes homed at 0, or the record as it is; a report beyond the count changes nothing.
@@ -58,7 +61,7 @@ fn run(repeat: Number, axes: Number, home: Number, line: &[u8]) {
     if fresh.number != 0 {
         return say(0, 0);
     }
-    let mut reply = [0u8; 96];
+    let mut reply = [0u8; LONGEST_ANSWER];
     let first = fresh.next;
     let d = homed(first, home.place() == 1, &mut reply);
     let many = repeat.place();

@@ -1,6 +1,7 @@
 -- What is told has the text that the reply's data is: the values that are listed are those of the axes that the number means.
 -- Assumes that there are four axis places, which every device record has.
 use mathlib.Core.Path.{_≡_, refl, sym, ap, _∙_}
+use mathlib.Core.Bool.{false}
 use mathlib.Core.List.{List, [], _∷_, map}
 use Prim.Native.Nat.{ℕ, zero, suc, _<_}
 use native.Mathlib.Omega.{arith}
@@ -10,8 +11,9 @@ use Rattle.words.specs.Cutting.{cut}
 use Rattle.command.specs.declared.Setting.{Setting}
 use Rattle.command.specs.declared.Setting.the-variants.{OfAxis, OfDevice}
 use Rattle.command.specs.declared.forms.Form.{Form}
+use Rattle.command.specs.Commands.{isInfo}
 use Rattle.command.specs.declared.kinds.Data.{Data}
-use Rattle.command.specs.declared.kinds.Data.the-variants.{Nought, Values, Stored, Position, Active, Parked, Words}
+use Rattle.command.specs.declared.kinds.Data.the-variants.{Nought, Values, Stored, Position, Active, Parked, Words, Info}
 use Rattle.axis.specs.declared.Axis.{Axis}
 use Rattle.axis.specs.Record.{freshAxis}
 use Rattle.device.specs.declared.Device.{Device}
@@ -21,7 +23,7 @@ use Rattle.device.specs.Record.{many, axesOf}
 use Rattle.device.proofs.Stretches.{stretch-axes}
 use Rattle.reply.specs.Data.{values}
 use Rattle.reply.specs.declared.told.Listed.{Listed}
-use Rattle.reply.specs.Told.{fourOf, listedOf, carried, toldText}
+use Rattle.reply.specs.Told.{fourOf, listedOf, carried, toldText, informs}
 use Rattle.view.specs.View.{valueIn, valuesOf, axisAt, listedFor}
 use Rattle.view.specs.Data.{settingData, parkedData, textOf, settingTold, toldOf}
 use Rattle.view.specs.declared.Value.{Value}
@@ -102,3 +104,19 @@ module _ (d : Device) (k : ℕ) (four : length (d .axes) ≡ 4) where
   told-text l f Active from end = refl
   told-text l f Parked from end = refl
   told-text l f Words from end = refl
+  told-text l f Info from end = refl
+
+-- info lines are told of where the data say so
+setting-informs : (d : Device) (k : ℕ) (s : Setting) → informs (settingTold d k s) ≡ false
+setting-informs d k (OfAxis s) = refl
+setting-informs d k (OfDevice s) = refl
+
+pub told-informs : (d : Device) (k : ℕ) (f : Form) (x : Data) (from end : ℕ) → informs (toldOf d k f x from end) ≡ isInfo x
+told-informs d k f Nought from end = refl
+told-informs d k f Values from end = setting-informs d k (f .setting)
+told-informs d k f Stored from end = refl
+told-informs d k f Position from end = refl
+told-informs d k f Active from end = refl
+told-informs d k f Parked from end = refl
+told-informs d k f Words from end = refl
+told-informs d k f Info from end = refl

@@ -10,7 +10,7 @@ use Rattle.command.specs.declared.Setting.the-variants.{OfAxis, OfDevice}
 use Rattle.command.specs.declared.Command.{Command}
 use Rattle.command.specs.declared.forms.Form.{Form}
 use Rattle.command.specs.declared.kinds.Data.{Data}
-use Rattle.command.specs.declared.kinds.Data.the-variants.{Nought, Values, Stored, Position, Active, Parked, Words}
+use Rattle.command.specs.declared.kinds.Data.the-variants.{Nought, Values, Stored, Position, Active, Parked, Words, Info}
 use Rattle.command.specs.Forms.{formOf}
 use Rattle.command.specs.Commands.{demands}
 use Rattle.device.specs.declared.Device.{Device}
@@ -39,6 +39,7 @@ textOf d k ws f Position = values (valuesOf Value.Pos d k)
 textOf d k ws f Active = warningList (warningsOf d k)
 textOf d k ws f Parked = parkedData d
 textOf d k ws f Words = echoed ws
+textOf d k ws f Info = text "0"
 
 unfoldable pub dataOf : Device → ℕ → List (List ℕ) → Command → List ℕ
 dataOf d k ws c = textOf d k ws (formOf c) (demands c .reply)
@@ -57,3 +58,4 @@ toldOf d k f Position from end = Told.Values (listedFor Value.Pos d k)
 toldOf d k f Active from end = Told.Active (warningsOf d k)
 toldOf d k f Parked from end = Told.Parked (d .parked)
 toldOf d k f Words from end = Told.Words from end
+toldOf d k f Info from end = Told.Info

@@ -40,5 +40,6 @@ pub fn told(d: Device, k: u64, f: Form, x: Data, from: usize, end: usize) -> Tol
         Data::Active => Told::Active(d.active(k)),
         Data::Parked => Told::Parked(d.parked),
         Data::Words => Told::Words(from, end),
+        Data::Info => Told::Info,
     }
 }

@@ -1,4 +1,4 @@
--- 20, 21, a foreign address, or the whole line.
+-- 20, 21, a foreign address, or the whole line, with room for its answer.
 -- Assumes nothing.
 use Rattle.carriage.proofs.Heard.{heard-small, heard-bad, heard-foreign, heard-line}
 use borrow.Author.Needs.{needs}
@@ -26,16 +26,18 @@ returns-3 c =
 
 returns-4 : tie.Need-returns-4
 returns-4 c =
-    let if3 = c .before in
+    let line = c .before in
+    let if3 = line .before in
     let foreign = if3 .before in
     let opened = foreign .before in
     let if2 = opened .before in
     let a = if2 .before .before .before .args in
     heard-line (a .own) (a .good) (a .line .now) (a .room) (if2 .before .if1 .left) (if2 .if2 .left)
     (opened .open-line .ensures) (foreign .foreign .ensures) (if3 .if3 .left)
-    (c .read-line .ensures .0)
+    (line .read-line .ensures .0) (c .with-room .ensures)
 
 pub hear-spec : {M : Type 1} → statement M
 hear-spec =
     tie.close
-    (tie.spec returns returns-2 (λ c κs. search needs) (λ c κs. search needs) returns-3 (λ c κs. search needs) returns-4)
+    (tie.spec returns returns-2 (λ c κs. search needs) (λ c κs. search needs) returns-3 (λ c κs. search needs) (λ c κs. search needs)
+    returns-4)

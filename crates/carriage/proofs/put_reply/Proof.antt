@@ -1,6 +1,6 @@
 -- Head, data and end are the reply.
 -- Assumes nothing.
-use Rattle.carriage.proofs.Replies.{replied}
+use Rattle.reply.proofs.Room.{reply-wrote}
 use borrow.Author.Needs.{needs}
 use Rattle.carriage.proofs.put_reply.Statement.{statement}
 use Rattle.carriage.proofs.put_reply.Tie as tie
@@ -12,7 +12,7 @@ returns c =
     let head = told .before .before .before .before in
     let s = head .before .before .before .before in
     let a = s .args in
-    replied (a .h .head) (s .pre .1) (a .h .sum) _ (s .pre .2) (s .pre .0) (head .put-head .ensures) (told .put-told .ensures)
+    reply-wrote (a .h .head) (s .pre .1) (a .h .sum) _ (s .pre .2) (s .pre .0) (head .put-head .ensures) (told .put-told .ensures)
     (end .put-end .ensures)
 
 pub put-reply-spec : {M : Type 1} → statement M

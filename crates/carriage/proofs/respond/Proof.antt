@@ -5,7 +5,7 @@ use mathlib.Core.Path.{_∙_}
 use native.Mathlib.Omega.{arith}
 use Rattle.reply.proofs.Lengths.{refusal-length}
 use Rattle.carriage.specs.ReadOnce.{respondTo}
-use Rattle.carriage.proofs.Answers.{once-as, silence-gives, rejection-digit, rejection-gives, joined, told-fits, acceptance-digit, acceptance-gives}
+use Rattle.carriage.proofs.Answers.{once-as, silence-gives, rejection-digit, rejection-gives, joined, told-fits, answer-fits, acceptance-digit, acceptance-gives}
 use borrow.Author.Needs.{needs}
 use Rattle.carriage.proofs.respond.Statement.{statement}
 use Rattle.carriage.proofs.respond.Tie as tie
@@ -22,8 +22,8 @@ put-reply-requires c κs =
     (rule .rule .ensures) (told .k .given .1) in
     (w .fair .0, rejection-digit _ _ _ _ _ _ w (heading .heading-of .ensures), omega (arith, refusal-length (told .k .given .0 .1 .0)))
 
-put-reply-requires-2 : tie.Need-put-reply-requires-2
-put-reply-requires-2 c κs =
+put-answer-requires : tie.Need-put-answer-requires
+put-answer-requires c κs =
     let heading = c .before in
     let if1 = heading .before in
     let told = if1 .before .before in
@@ -38,7 +38,7 @@ put-reply-requires-2 c κs =
     let next = ⊎-elim (λ n. n .2 ∙ n .1 .ensures) (λ n. joined _ _ _ _ _ _ _ _ _ w (n .0 .left) (n .1)) (if1 .if1 .came) in
     let form-is = form .form .ensures in
     let end-is = told .before .end-within .ensures in (
-      w .fair .room,
+      answer-fits _ _ _ _ _ _ _ _ _ w form-is end-is (told .told .ensures),
       acceptance-digit _ _ _ _ _ _ _ _ _ w form-is end-is (told .told .ensures) next (heading .heading-of2 .ensures),
       told-fits _ _ _ _ _ _ _ _ _ w form-is end-is (told .told .ensures),
     )
@@ -86,12 +86,12 @@ returns-3 c =
     (rule .rule .ensures) (k2 .k2 .given .1) in
     let next = ⊎-elim (λ n. n .2 ∙ n .1 .ensures) (λ n. joined _ _ _ _ _ _ _ _ _ w (n .0 .left) (n .1)) (if1 .if1 .came) in
     acceptance-gives _ _ _ _ _ _ _ _ _ w (form .form .ensures) (told .before .end-within .ensures) (told .told .ensures) next
-    (heading .heading-of2 .ensures) (reply .put-reply2 .ensures)
+    (heading .heading-of2 .ensures) (reply .put-answer .ensures)
 
 pub respond-spec : {M : Type 1} → statement M
 respond-spec =
     tie.close
     (tie.spec (λ c κs. search needs) (λ c κs. search needs) (λ c κs. search needs) (λ c. search needs) (λ c. search needs)
     (λ c κs. search needs) put-reply-requires (λ c. search needs) (λ c κs. search needs) (λ c κs. search needs) (λ c κs. search needs)
-    (λ c κs. search needs) (λ c κs. search needs) put-reply-requires-2 returns (λ c. search needs) returns-2 (λ c. search needs)
+    (λ c κs. search needs) (λ c κs. search needs) put-answer-requires returns (λ c. search needs) returns-2 (λ c. search needs)
     returns-3)

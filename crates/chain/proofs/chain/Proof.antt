@@ -24,7 +24,7 @@ use denote.Builtin.{bool}
 use Rattle.laws.specs.Lists.{all}
 use Rattle.device.specs.Good.{good}
 use Rattle.chain.specs.Walk.{Fits, Walked, begun, told}
-use Rattle.chain.specs.Chain.{Gives, refusal, chain as chain-of}
+use Rattle.chain.specs.Chain.{Gives, chain as chain-of}
 use Rattle.chain.proofs.Walks.{run-length, run-room}
 use Rattle.chain.proofs.Chains.{begun-fits, chained}
 use Rattle.chain.proofs.Look.{LentShared, shares-at, shared-back}
@@ -387,9 +387,9 @@ module _ {M : Type 1} (𝓤 : URA M) (H : Heap 𝓤) (A : Atoms 𝓤) (W : Given
       nothing ! $ move ! (2 ∷ 0 ∷ []) $ join ! $ join ! $ nothing ! $ move ! (1 ∷ 0 ∷ []) $ done !
 
   begun-of : (g : Bool) (r : Pass) → ent 𝓤 (ensured 𝓤 H A begin′.ended (begin′.clauses 𝓤 H A mem run) (κ₁, tt) (n, (m, (g, (ln, tt)))) tt r)
-      (fact 𝓤 (r ≡ begun (refusal n m g) (ln .now)))
+      (fact 𝓤 (r ≡ begun n m g (ln .now)))
   begun-of g r = exE 𝓤 _ (λ ws. snd∗ 𝓤 (sem 𝓤 H A (lasts begin′.ended (κ₁, tt) (n, (m, (g, (ln, tt)))) ws))
-      (fact 𝓤 (r ≡ begun (refusal n m g) (ln .now))))
+      (fact 𝓤 (r ≡ begun n m g (ln .now))))
 
   -- ---- the records are looked at: they are lent as a `&` for the call
   abbrev OwnD : Fml
@@ -499,8 +499,8 @@ module _ {M : Type 1} (𝓤 : URA M) (H : Heap 𝓤) (A : Atoms 𝓤) (W : Given
           use1 W (later (some (λ (r : Pass). ((‵ (flft κ₁ q₁) ⊛ ‵ ftrue) ⊛ ‵ (P.the-row .own r (u ∷ [])))
           ⊛ raw (ensured 𝓤 H A begin′.ended (begin′.clauses 𝓤 H A mem run) (κ₁, tt) (n, (m, (g, (ln, tt)))) tt r)))) (id⊢ 𝓤 _) $
           await ! tt $ pick ! (λ r.
-          split ! $ move ! (1 ∷ []) $ use1 W (raw (fact 𝓤 (r ≡ begun (refusal n m g) (ln .now)))) (begun-of g r) $
-          heard ! (r ≡ begun (refusal n m g) (ln .now)) (λ e. split ! $ move ! (1 ∷ []) $
+          split ! $ move ! (1 ∷ []) $ use1 W (raw (fact 𝓤 (r ≡ begun n m g (ln .now)))) (begun-of g r) $
+          heard ! (r ≡ begun n m g (ln .now)) (λ e. split ! $ move ! (1 ∷ []) $
           peeks ! P.the-row (Is P.the-row) (shows 𝓤 H A P.the-row) r (u ∷ []) (λ is. drop ! $ split ! $
           -- [the line's token; …; the line; the devices; their token; the reply; its token; the locals]
           keep ! (3 ∷ 4 ∷ 5 ∷ 6 ∷ 2 ∷ 0 ∷ 7 ∷ 8 ∷ 9 ∷ 10 ∷ 11 ∷ 12 ∷ 13 ∷ 14 ∷ 15 ∷ 16 ∷ 17 ∷ 18 ∷ 19 ∷ 20 ∷ 21 ∷ 22 ∷ 23 ∷ 24 ∷ 25 ∷ 26

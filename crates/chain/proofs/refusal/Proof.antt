@@ -1,7 +1,5 @@
 -- Too long a chain, none, too small a buffer; and whether all records are good.
 -- Assumes nothing.
-use mathlib.Core.Path.{_∙_, sym, ap}
-use mathlib.Core.Bool.{Bool, cond}
 use Rattle.chain.proofs.Chains.{refused-long, refused-none, refused-small, unless-bad}
 use borrow.Author.Needs.{needs}
 use Rattle.chain.proofs.refusal.Statement.{statement}

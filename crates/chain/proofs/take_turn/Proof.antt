@@ -1,7 +1,7 @@
--- The reply fits where it is written, behind those before it.
+-- The answer fits where it is written, behind those before it.
 -- Assumes nothing.
 use native.Mathlib.Omega.{arith}
-use Rattle.chain.proofs.Walks.{reply-fits, took}
+use Rattle.chain.proofs.Walks.{answer-fits, took}
 use borrow.Author.Needs.{needs}
 use Rattle.chain.proofs.take_turn.Statement.{statement}
 use Rattle.chain.proofs.take_turn.Tie as tie
@@ -15,7 +15,7 @@ add-place c =
       fits = omega (
         arith,
         s .good .1 .1 .0 .0,
-        reply-fits (a .line .now) (a .d) (a .p .read) (a .p .place) (a .reply .now) (answer .respond .ensures) (s .pre),
+        answer-fits (a .line .now) (a .d) (a .p .read) (a .p .place) (a .reply .now) (answer .respond .ensures) (s .pre),
       );
     }
 

@@ -1,4 +1,4 @@
--- The replies of the chain are printed, and its next records go on.
+-- The answers of the chain are printed, and its next records go on.
 -- Assumes nothing.
 use mathlib.Core.Path.{_≡_, sym}
 use Prim.Native.Nat.{_*_}
@@ -20,7 +20,7 @@ slice-aggregate-hear c = sym (length-take-le _ _ (omega (arith, c .before .lesse
 slice-aggregate-put-answer : tie.Need-slice-aggregate-put-answer
 slice-aggregate-put-answer c =
     let heard = c .before .before .before .before .before in
-    refilled (96 * heard .before .before .lesser .result) (replicate 1536 0) (heard .hear .last .1 .1 .0) (heard .hear .kept .1 .1 .0)
+    refilled (1152 * heard .before .before .lesser .result) (replicate 18432 0) (heard .hear .last .1 .1 .0) (heard .hear .kept .1 .1 .0)
 
 returns : tie.Need-returns
 returns c =

@@ -1,4 +1,4 @@
--- `dialogue::main` ends: 22 commands, one at each turn.
+-- `dialogue::main` ends: 25 commands, one at each turn.
 -- Assumes nothing.
 use borrow.Author.Needs.{needs}
 use Prim.Native.Nat.{_-_, _≤_}
@@ -7,10 +7,10 @@ use Rattle.dialogue.proofs.main.Statement.{statement}
 use Rattle.dialogue.proofs.main.Tie as tie
 
 abbrev Inv-loop : tie.InvT-loop
-Inv-loop d₀ k₀ d k = k ≤ 22
+Inv-loop d₀ k₀ d k = k ≤ 25
 
 abbrev μ-loop : tie.MeasureT-loop
-μ-loop d₀ k₀ d k = 22 - k
+μ-loop d₀ k₀ d k = 25 - k
 
 loop-holds : tie.Need-loop-holds Inv-loop μ-loop
 loop-holds c = omega arith

@@ -61,7 +61,7 @@ fn two_of(tens: u64, ones: u64) -> u64
 }
 
 // Mark, address and axis: the front of a message of any kind.
-pub fn read_front(line: &[u8]) -> Front
+pub(crate) fn read_front(line: &[u8]) -> Front
     ensures { λ r. ⌜ r ≡ frontIn (now (line .entry)) ⌝ }
 {
     let mark = find_word(field(line, 0, 1), b"@ ! #");
@@ -77,7 +77,7 @@ pub fn read_front(line: &[u8]) -> Front
 }
 
 // Status and warning, from the front of s on.
-pub fn read_state(s: &[u8]) -> StateRead
+pub(crate) fn read_state(s: &[u8]) -> StateRead
     ensures { λ r. ⌜ r ≡ stateIn (now (s .entry)) ⌝ }
 {
     let status = find_word(field(s, 0, 4), b"IDLE BUSY");

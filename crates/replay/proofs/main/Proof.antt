@@ -7,10 +7,10 @@ use Rattle.replay.proofs.main.Statement.{statement}
 use Rattle.replay.proofs.main.Tie as tie
 
 abbrev Inv-loop : tie.InvT-loop
-Inv-loop k₀ k = k ≤ 44
+Inv-loop k₀ k = k ≤ 45
 
 abbrev μ-loop : tie.MeasureT-loop
-μ-loop k₀ k = 44 - k
+μ-loop k₀ k = 45 - k
 
 loop-holds : tie.Need-loop-holds Inv-loop μ-loop
 loop-holds c = omega arith

@@ -1,7 +1,8 @@
--- `reply::put_state` meets its contract: one of four texts.
+-- `reply::put_state` meets its contract: status and highest warning.
 -- Assumes nothing.
 use Rattle.laws.specs.Text.{text}
-use Rattle.reply.proofs.Texts.{state-is}
+use Rattle.buffer.proofs.Wrote.{_▸_}
+use Rattle.reply.proofs.Texts.{highest-is, state-is}
 use borrow.Author.Needs.{needs}
 use Rattle.reply.proofs.put_state.Statement.{statement}
 use Rattle.reply.proofs.put_state.Tie as tie
@@ -9,17 +10,12 @@ use Rattle.reply.proofs.put_state.Tie as tie
 returns : tie.Need-returns
 unfolding text
 returns c =
-    let either = c .before .before in
-    rw (← state-is _ _, either .before .before .before .before .if1 .taken) (either .put-either .ensures)
-
-returns-2 : tie.Need-returns-2
-unfolding text
-returns-2 c =
-    let either = c .before .before in
-    rw (← state-is _ _, either .before .before .before .before .if1 .left) (either .put-either2 .ensures)
+    let warning = c .before .before in
+    let either = warning .before .before .before .before .before in
+    rw (← state-is _ _, ← highest-is _, ← warning .before .highest .ensures) (either .put-either .ensures ▸ warning .put-warning .ensures)
 
 pub put-state-spec : {M : Type 1} → statement M
 put-state-spec =
     tie.close
-    (tie.spec (λ c. search needs) (λ c. search needs) (λ c κs. search needs) (λ c. search needs) (λ c. search needs) (λ c κs. search needs)
-    (λ c. search needs) returns (λ c. search needs) returns-2)
+    (tie.spec (λ c. search needs) (λ c. search needs) (λ c κs. search needs) (λ c κs. search needs) (λ c κs. search needs)
+    (λ c. search needs) returns)

@@ -1,18 +1,18 @@
--- `session::report_turn` meets its contract: the report's number is printed, and its next record goes on.
+-- `session::report_turn` meets its contract: the report's number and its alert are printed, and its next record goes on.
 -- Assumes nothing.
-use Rattle.laws.specs.Text.{text}
 use Rattle.session.proofs.Turns.{took-report}
 use borrow.Author.Needs.{needs}
 use Rattle.session.proofs.report_turn.Statement.{statement}
 use Rattle.session.proofs.report_turn.Tie as tie
 
 returns : tie.Need-returns
-unfolding text
 returns c =
-    let told = c .before .before .before .before .before .before in
-    took-report _ _ (told .before .read-report .ensures .0) (told .report-outcome .ensures) (c .before .before .put-told .ensures)
+    let put-reported = c .before .before in
+    let answer = put-reported .before .before .before .before .before in
+    took-report _ _ (answer .before .before .read-report .ensures .0) (answer .report-answer .ensures) (put-reported .put-reported .ensures)
 
 pub report-turn-spec : {M : Type 1} → statement M
 report-turn-spec =
     tie.close
-    (tie.spec (λ c κs. search needs) (λ c κs. search needs) (λ c. search needs) (λ c κs. search needs) (λ c. search needs) returns)
+    (tie.spec (λ c κs. search needs) (λ c. search needs) (λ c κs. search needs) (λ c. search needs) (λ c κs. search needs)
+    (λ c. search needs) returns)

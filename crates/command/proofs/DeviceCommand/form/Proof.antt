@@ -22,9 +22,12 @@ returns-5 c = simp (c .of5 .ensures, c .before .enum-told3 .given .1)
 returns-6 : tie.Need-returns-6
 returns-6 c = simp (c .of6 .ensures, c .before .enum-told4 .given .1)
 
+returns-7 : tie.Need-returns-7
+returns-7 c = simp (c .of7 .ensures, c .before .enum-told5 .given .1)
+
 pub form-spec : {M : Type 1} → statement M
 form-spec =
     tie.close
     (tie.spec (λ c. search needs) (λ c κs. search needs) (λ c. search needs) (λ c κs. search needs) (λ c. search needs)
     (λ c κs. search needs) (λ c. search needs) (λ c κs. search needs) (λ c. search needs) (λ c κs. search needs) (λ c. search needs)
-    (λ c κs. search needs) returns returns-2 returns-3 returns-4 returns-5 returns-6)
+    (λ c κs. search needs) (λ c. search needs) (λ c κs. search needs) returns returns-2 returns-3 returns-4 returns-5 returns-6 returns-7)

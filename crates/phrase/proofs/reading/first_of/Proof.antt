@@ -60,7 +60,14 @@ returns-8 c =
 returns-9 : tie.Need-returns-9
 unfolding text
 returns-9 c =
-    let if7 = c .before .before .before in
+    is-name unknown (firsts _) firsts-apart _ 8 refl (c .before .before .same-bytes9 .ensures) (c .before .if9 .taken)
+    (c .read-help .ensures)
+
+returns-10 : tie.Need-returns-10
+unfolding text
+returns-10 c =
+    let if8 = c .before .before .before in
+    let if7 = if8 .before .before .before in
     let if6 = if7 .before .before .before in
     let if5 = if6 .before .before .before in
     let if4 = if5 .before .before .before in
@@ -75,7 +82,8 @@ returns-9 c =
     also (sym (if5 .before .same-bytes5 .ensures) ∙ if5 .if5 .left)
     also (sym (if6 .before .same-bytes6 .ensures) ∙ if6 .if6 .left)
     also (sym (if7 .before .same-bytes7 .ensures) ∙ if7 .if7 .left)
-    also (sym (c .before .same-bytes8 .ensures) ∙ c .if8 .left)
+    also (sym (if8 .before .same-bytes8 .ensures) ∙ if8 .if8 .left)
+    also (sym (c .before .same-bytes9 .ensures) ∙ c .if9 .left)
     also none)
 
 pub first-of-spec : {M : Type 1} → statement M
@@ -85,4 +93,5 @@ first-of-spec =
     (λ c κs. search needs) returns-2 (λ c. search needs) (λ c κs. search needs) (λ c κs. search needs) returns-3 (λ c. search needs)
     (λ c κs. search needs) (λ c κs. search needs) returns-4 (λ c. search needs) (λ c κs. search needs) (λ c κs. search needs) returns-5
     (λ c. search needs) (λ c κs. search needs) (λ c κs. search needs) returns-6 (λ c. search needs) (λ c κs. search needs)
-    (λ c κs. search needs) returns-7 (λ c. search needs) (λ c κs. search needs) (λ c κs. search needs) returns-8 returns-9)
+    (λ c κs. search needs) returns-7 (λ c. search needs) (λ c κs. search needs) (λ c κs. search needs) returns-8 (λ c. search needs)
+    (λ c κs. search needs) (λ c κs. search needs) returns-9 returns-10)

@@ -8,6 +8,9 @@ use borrow.Author.Needs.{needs}
 use Rattle.reply.proofs.told.put_told.Statement.{statement}
 use Rattle.reply.proofs.told.put_told.Tie as tie
 
+add-put-byte : tie.Need-add-put-byte
+add-put-byte c = omega (arith, bit-small (c .before .before .x4 .given .0 .0))
+
 returns : tie.Need-returns
 unfolding text
 returns c = rw (c .before .before .before .before .enum-told .given .1) (c .before .before .put-byte .ensures)
@@ -20,9 +23,6 @@ returns-3 c = rw (c .before .before .before .before .before .x2 .given .1) (c .b
 
 returns-4 : tie.Need-returns-4
 returns-4 c = rw (c .before .before .before .before .before .x3 .given .1) (c .before .before .put-warnings .ensures)
-
-add-put-byte : tie.Need-add-put-byte
-add-put-byte c = omega (arith, bit-small (c .before .before .x4 .given .0 .0))
 
 returns-5 : tie.Need-returns-5
 returns-5 c =
@@ -37,11 +37,16 @@ returns-6 c =
 returns-7 : tie.Need-returns-7
 returns-7 c = rw (c .before .before .before .before .before .x6 .given .1) (c .before .before .put-refusal .ensures)
 
+returns-8 : tie.Need-returns-8
+unfolding text
+returns-8 c = rw (c .before .before .before .before .enum-told2 .given .1) (c .before .before .put-byte3 .ensures)
+
 pub put-told-spec : {M : Type 1} → statement M
 put-told-spec =
     tie.close
     (tie.spec (λ c. search needs) (λ c κs. search needs) (λ c. search needs) (λ c κs. search needs) (λ c. search needs)
     (λ c κs. search needs) (λ c. search needs) (λ c κs. search needs) (λ c. search needs) (λ c. search needs) add-put-byte
     (λ c κs. search needs) (λ c. search needs) (λ c κs. search needs) (λ c κs. search needs) (λ c. search needs) (λ c κs. search needs)
-    (λ c. search needs) returns (λ c. search needs) returns-2 (λ c. search needs) returns-3 (λ c. search needs) returns-4
-    (λ c. search needs) returns-5 (λ c. search needs) returns-6 (λ c. search needs) returns-7)
+    (λ c. search needs) (λ c κs. search needs) (λ c. search needs) returns (λ c. search needs) returns-2 (λ c. search needs) returns-3
+    (λ c. search needs) returns-4 (λ c. search needs) returns-5 (λ c. search needs) returns-6 (λ c. search needs) returns-7
+    (λ c. search needs) returns-8)

@@ -33,9 +33,12 @@ returns-6 c = (simp (c .enum-told6 .given .1), four (c .before .before))
 returns-7 : tie.Need-returns-7
 returns-7 c = (simp (c .enum-told7 .given .1), four (c .before .before))
 
+returns-8 : tie.Need-returns-8
+returns-8 c = (simp (c .enum-told8 .given .1), four (c .before .before))
+
 pub told-spec : {M : Type 1} → statement M
 told-spec =
     tie.close
     (tie.spec (λ c. search needs) (λ c. search needs) (λ c κs. search needs) (λ c. search needs) (λ c κs. search needs)
     (λ c. search needs) (λ c κs. search needs) (λ c. search needs) (λ c κs. search needs) (λ c. search needs) (λ c. search needs)
-    returns returns-2 returns-3 returns-4 returns-5 returns-6 returns-7)
+    (λ c. search needs) returns returns-2 returns-3 returns-4 returns-5 returns-6 returns-7 returns-8)

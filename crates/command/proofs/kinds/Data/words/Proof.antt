@@ -12,7 +12,8 @@ use Rattle.command.proofs.kinds.Data.words.Tie as tie
 returns : tie.Need-returns
 returns c =
     arm enum isWords _ (c .before .args .self) _ (c .match .keys1)
-    (more (λ v. refl) (more (λ v. refl) (more (λ v. refl) (more (λ v. refl) (more (λ v. refl) (more (λ v. refl) none))))))
+    (more (λ v. refl) (more (λ v. refl) (more (λ v. refl) (more (λ v. refl) (more (λ v. refl) (more (λ v. refl)
+    (more (λ v. refl) none)))))))
 
 returns-2 : tie.Need-returns-2
 returns-2 c = search needs
