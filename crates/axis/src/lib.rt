@@ -1,5 +1,7 @@
 // One axis of the carriage: its settings, its motion, its reference, its warnings and its stored positions, by value.
 // The rules are in specs/; the limits of travel are in specs/Travel.antt.
+#![tactic(auto)]
+
 ghost use Rattle.std.specs.Prelude.{◌≡◌};
 ghost use Rattle.axis.specs.Record.{with_settings, with_motion, in_motion, is_homing, moving, stopped, fresh_axis};
 
@@ -10,7 +12,7 @@ use units::{Position, Speed};
 pub const STORED: usize = 16;
 
 // The motion of an axis.
-#[derive(Drop)]
+#[derive(Clone, Copy)]
 pub enum Motion {
     Idle,
     Homing,
@@ -20,7 +22,7 @@ pub enum Motion {
 }
 
 // One axis place. The mask's bits 0 to 6 are the warnings FD to FE; WR is active where there is no reference.
-#[derive(Drop)]
+#[derive(Clone, Copy)]
 pub struct Axis {
     pub settings: Settings,
     pub motion: Motion,

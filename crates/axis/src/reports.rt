@@ -9,7 +9,7 @@ use crate::{Axis, Motion};
 use units::{Number, Position};
 
 // A motor report, kinds 1 to 5 in this order; any other kind.
-#[derive(Drop)]
+#[derive(Clone, Copy)]
 pub enum Report {
     MovingAt(Position),
     StoppedAt(Position),

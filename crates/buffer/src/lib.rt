@@ -1,5 +1,7 @@
 // Writes into a lent buffer: each writer stores the bytes that have a place there and gives the place after the last of them.
 // A byte that has no place is not written, so that no writer asks for room; specs/Wrote.antt says what each one leaves.
+#![tactic(auto)]
+
 ghost use Rattle.std.specs.Prelude.{◌≡◌, cond, ◌∷◌, [], ◌++◌, ◌%◌, ◌+◌, ◌≤◌, length};
 ghost use Rattle.numbers.specs.Decimal.{digits, decimal, two_digits_lem, hex_digit, hex_pair};
 ghost use Rattle.buffer.specs.Wrote.{Wrote};

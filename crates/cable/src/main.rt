@@ -1,5 +1,7 @@
 // The program cable: at most 4,096 bytes of standard input, part by part, for a chain of four devices.
 // What each part prints is `chain_session::turn`.
+#![tactic(auto)]
+
 ghost use Rattle.std.specs.Prelude.{◌≡◌};
 ghost use Rattle.chain_session.specs.Held.{records_of, holding};
 ghost use Rattle.chain_session.specs.Cable.{turn as turn_of};

@@ -1,5 +1,7 @@
 // A line or a motor report, a record and a buffer in; number, length and next record out, and what is sent in the buffer.
 // specs/Step.antt says what a line makes of a record, for every record, line and buffer, and specs/Report.antt what a report does.
+#![tactic(auto)]
+
 ghost use Rattle.std.specs.Prelude.{◌≡◌, cond, [], ◌++◌, ◌+◌, ◌≤◌, ◌<◌, length};
 ghost use Rattle.buffer.specs.Wrote.{Wrote};
 ghost use Rattle.reply.specs.Help.{help_text, longest_answer, longest_infos, info_lines};
@@ -27,7 +29,7 @@ use units::Number;
 const MOST_WORDS: usize = 74;
 
 // The answer to a line: the number, the reply's length, and the next record.
-#[derive(Drop)]
+#[derive(Clone, Copy)]
 pub struct Answer {
     pub number: u8,
     pub length: usize,
@@ -36,7 +38,7 @@ pub struct Answer {
 
 // What a line comes to, before anything is written: a silence; a rejection, with its axis; or a command that meets no refusal,
 // with its axis, the places in the line between which the words stand that it carries, and what it demands.
-#[derive(Drop)]
+#[derive(Clone, Copy)]
 pub enum Ruling {
     Silent(u8),
     Rejected(u64, u8),
@@ -44,7 +46,7 @@ pub enum Ruling {
 }
 
 // What a reply has of its record besides the data: the head, and whether a checksum is wanted.
-#[derive(Drop)]
+#[derive(Clone, Copy)]
 pub struct Heading {
     pub head: Head,
     pub sum: bool,

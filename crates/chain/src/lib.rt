@@ -1,5 +1,7 @@
 // Several devices on one cable: a lent run of records, one line and a reply buffer in; each record that the line concerns is changed
 // where it stands, and their answers stand one behind the other. specs/Chain.antt says what a line makes of all of it.
+#![tactic(auto)]
+
 ghost use Rattle.std.specs.Prelude.{◌≡◌, ◌&&◌, ◌*◌, ◌≤◌, length};
 ghost use Rattle.laws.specs.Lists.{all};
 ghost use Rattle.device.specs.Good.{good as goodOf};
@@ -17,21 +19,21 @@ use reply::LONGEST_REPLY;
 pub const LONGEST_CHAIN: usize = 16;
 
 // What is carried from one record to the next: what was read of the line, and the place behind the answers so far.
-#[derive(Drop)]
+#[derive(Clone, Copy)]
 struct Pass {
     read: LineRead,
     place: usize,
 }
 
 // A record's turn: the next record, and what is carried on.
-#[derive(Drop)]
+#[derive(Clone, Copy)]
 struct Turn {
     device: Device,
     pass: Pass,
 }
 
 // What a line came to: the number, and the length of all answers together.
-#[derive(Drop)]
+#[derive(Clone, Copy)]
 pub struct Told {
     pub number: u8,
     pub length: usize,

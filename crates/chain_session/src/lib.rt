@@ -1,5 +1,7 @@
 // What the program `cable` does with its input: a chain that is held by value, and one turn a part, a line or a motor report.
 // specs/Held.antt says what a line makes of such a chain, specs/Cable.antt what is printed, for every input.
+#![tactic(auto)]
+
 ghost use Rattle.std.specs.Prelude.{◌≡◌, ◌≤◌, length, take, drop};
 ghost use Rattle.chain.specs.Chain.{chain as chainOf};
 ghost use Rattle.input.specs.ReportLines.{read_placed};
@@ -18,28 +20,28 @@ use units::{Number, lesser};
 pub const MOST_ANSWERS: usize = 18432;
 
 // Up to 16 records, one behind the other: the first `count` places.
-#[derive(Drop)]
+#[derive(Clone, Copy)]
 pub struct Cable {
     pub devices: [Device; LONGEST_CHAIN],
     pub count: usize,
 }
 
 // The answer to a line, and the chain afterwards.
-#[derive(Drop)]
+#[derive(Clone, Copy)]
 pub struct Heard {
     pub told: Told,
     pub next: Cable,
 }
 
 // The place behind what a turn printed, and the chain afterwards.
-#[derive(Drop)]
+#[derive(Clone, Copy)]
 pub struct Turned {
     pub place: usize,
     pub next: Cable,
 }
 
 // What a report makes of a chain: its number, the length of its alert, and the chain afterwards.
-#[derive(Drop)]
+#[derive(Clone, Copy)]
 struct Reported {
     number: u8,
     length: usize,
@@ -47,7 +49,7 @@ struct Reported {
 }
 
 // What comes back of places that were lent.
-#[derive(Drop)]
+#[derive(Clone, Copy)]
 struct Lent {
     told: Told,
     devices: [Device; LONGEST_CHAIN],

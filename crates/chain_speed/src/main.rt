@@ -1,5 +1,7 @@
 // The speed program for chains over the proved library: one line goes through a chain many times. tools/speed runs it beside the
 // plain one, whose file tools/plain/chain_speed.c says what both read and write.
+#![tactic(auto)]
+
 use chain_session::Cable;
 use device::Device;
 use input::reports::ReportRead;

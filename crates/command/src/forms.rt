@@ -8,7 +8,7 @@ use units::Number;
 
 // A row of the table of commands, and what a command of that row carries: a setting, and its numbers N and P. Where the row
 // has no such place there is pos, or 0.
-#[derive(Drop)]
+#[derive(Clone, Copy)]
 pub struct Form {
     pub row: usize,
     pub setting: Setting,

@@ -8,7 +8,7 @@ use crate::forms::Form;
 use crate::{Command, Setting};
 
 // Whether a command has to do with a setting: no, it reads it, or it writes it.
-#[derive(Drop)]
+#[derive(Clone, Copy)]
 pub enum Use {
     Apart,
     Gets,
@@ -17,7 +17,7 @@ pub enum Use {
 
 // The data of a command's reply: 0, the values of its setting, the position stored under its number, the positions, the
 // warnings, whether the device is parked, its words, or 0 with info lines behind the reply.
-#[derive(Drop)]
+#[derive(Clone, Copy)]
 pub enum Data {
     Nought,
     Values,
@@ -59,7 +59,7 @@ impl Data {
 
 // A row: what it has to do with a setting; whether only an unparked device takes it; whether it takes its axes at rest;
 // whether it only shows, so that nothing is asked of an axis and nothing changed; the data of its reply.
-#[derive(Drop)]
+#[derive(Clone, Copy)]
 pub struct Kind {
     pub uses: Use,
     pub unparked: bool,
@@ -69,7 +69,7 @@ pub struct Kind {
 }
 
 // What a command demands of the device and its axes, beside the values that it carries. `barred`: it sets what is read only.
-#[derive(Drop)]
+#[derive(Clone, Copy)]
 pub struct Demands {
     pub barred: bool,
     pub access: u8,

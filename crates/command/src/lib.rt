@@ -1,9 +1,11 @@
 // What can be asked of the carriage: document 01's table of commands and its table of settings, as types.
 // What is constant of a command is in kinds.rt, what a command carries in forms.rt, the settings' table in settings.rt.
+#![tactic(auto)]
+
 use units::{Number, Position, Speed};
 
 // The settings of an axis, in the order of document 01's table.
-#[derive(Drop)]
+#[derive(Clone, Copy)]
 pub enum AxisSetting {
     Pos,
     LimitMin,
@@ -18,7 +20,7 @@ pub enum AxisSetting {
 }
 
 // The settings of the device, in the order of document 01's table.
-#[derive(Drop)]
+#[derive(Clone, Copy)]
 pub enum DeviceSetting {
     CommAddress,
     CommAlert,
@@ -28,14 +30,14 @@ pub enum DeviceSetting {
     SystemAxisCount,
 }
 
-#[derive(Drop)]
+#[derive(Clone, Copy)]
 pub enum Setting {
     OfAxis(AxisSetting),
     OfDevice(DeviceSetting),
 }
 
 // Where a move is to end: `move abs`, `rel`, `min`, `max`, `stored`.
-#[derive(Drop)]
+#[derive(Clone, Copy)]
 pub enum Target {
     Abs(Position),
     Rel(Position),
@@ -45,7 +47,7 @@ pub enum Target {
 }
 
 // The commands of the scope "axis". The rows of document 01's table, in its order.
-#[derive(Drop)]
+#[derive(Clone, Copy)]
 pub enum AxisCommand {
     Nothing,
     Home,
@@ -63,7 +65,7 @@ pub enum AxisCommand {
 }
 
 // The commands of the scope "device". The words of an echo stand beside the command, in its line.
-#[derive(Drop)]
+#[derive(Clone, Copy)]
 pub enum DeviceCommand {
     Get(DeviceSetting),
     Set(DeviceSetting, Number),
@@ -75,7 +77,7 @@ pub enum DeviceCommand {
 }
 
 // A command by its scope.
-#[derive(Drop)]
+#[derive(Clone, Copy)]
 pub enum Command {
     OfAxes(AxisCommand),
     OfDevice(DeviceCommand),

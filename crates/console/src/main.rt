@@ -1,6 +1,8 @@
 // The program console: answers standard input line by line as it arrives, and keeps the record from one line to the next.
 // For a person at a terminal, or behind a serial line. Each part is answered as bench answers it, and where a line went wrong at
 // one of its bytes, a caret stands under that byte: `session::show`.
+#![tactic(auto)]
+
 ghost use Rattle.std.specs.Prelude.{◌≡◌};
 ghost use Rattle.io.specs.Counts.{IsPrefixLen};
 ghost use Rattle.session.specs.Bench.{shown};
@@ -8,7 +10,7 @@ ghost use Rattle.session.specs.Bench.{shown};
 use device::Device;
 
 // A byte of standard input, where there is one.
-#[derive(Drop)]
+#[derive(Clone, Copy)]
 struct Byte {
     there: bool,
     byte: u8,
@@ -24,7 +26,7 @@ fn read_byte() -> Byte {
 }
 
 // How many bytes of a part are kept, and whether another part may follow.
-#[derive(Drop)]
+#[derive(Clone, Copy)]
 struct Part {
     kept: usize,
     more: bool,
@@ -62,7 +64,7 @@ fn answer(d: Device, part: &[u8]) -> Device
 }
 
 // The next record, and whether another part may follow.
-#[derive(Drop)]
+#[derive(Clone, Copy)]
 struct Served {
     next: Device,
     more: bool,

@@ -1,5 +1,7 @@
 // The device record, by value: its settings, four axis places, and the fresh record.
 // What commands and reports do to it is in the crates `rules` and `carriage`.
+#![tactic(auto)]
+
 ghost use Rattle.std.specs.Prelude.{◌≡◌};
 ghost use Rattle.device.specs.Record.{value as value_of, fresh_comm, fresh as fresh_of};
 
@@ -8,7 +10,7 @@ use command::DeviceSetting;
 use units::Number;
 
 // comm.address, comm.alert and comm.checksum.
-#[derive(Drop)]
+#[derive(Clone, Copy)]
 pub struct Comm {
     pub address: Number,
     pub alert: Number,
@@ -16,7 +18,7 @@ pub struct Comm {
 }
 
 // The device record: `access` is system.access, `id` is deviceid, `count` is system.axiscount.
-#[derive(Drop)]
+#[derive(Clone, Copy)]
 pub struct Device {
     pub comm: Comm,
     pub access: Number,
@@ -27,7 +29,7 @@ pub struct Device {
 }
 
 // The number of a refusal, or 0, and the next record.
-#[derive(Drop)]
+#[derive(Clone, Copy)]
 pub struct Outcome {
     pub number: u8,
     pub next: Device,

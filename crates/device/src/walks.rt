@@ -14,7 +14,7 @@ use command::AxisCommand;
 use units::lesser;
 
 // Some neighbouring axis places.
-#[derive(Drop)]
+#[derive(Clone, Copy)]
 pub struct Stretch {
     pub from: usize,
     pub many: usize,

@@ -1,6 +1,8 @@
 // A host talks to a device: one command of each row of the table, written, obeyed, and each message of the answer read back. Alerts are
 // asked for, and `home` is sent once more, so that they come.
 // Each line printed is the command's line as it was written, with a checksum every other time, and what the host understood.
+#![tactic(auto)]
+
 use command::{AxisCommand, AxisSetting, Command, DeviceCommand, DeviceSetting, Target};
 use device::Device;
 use host_reader::reading::field;

@@ -1,5 +1,7 @@
 // The warnings as a mask of eight flags: bit 0 is the highest warning and bit 7 is WR.
 // Of any other mask the eight lowest bits are looked at. specs/Flags.antt says the same of lists of flags.
+#![tactic(auto)]
+
 ghost use Rattle.std.specs.Prelude.{◌≡◌};
 ghost use Rattle.flags.specs.Flags.{bits, mask, active as activeOf, either, count, first};
 

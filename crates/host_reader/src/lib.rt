@@ -1,5 +1,7 @@
 // What a message of a device says, as types, and what its texts may hold. The code that reads a message stands in
 // reading.rt. The spelling is in specs/Spelling.antt, and proofs/Messages.antt shows that just that is read.
+#![tactic(auto)]
+
 ghost use Rattle.std.specs.Prelude.{◌≡◌};
 ghost use Rattle.laws.specs.Lists.{all};
 ghost use Rattle.host_reader.specs.Reading.{data_byte};
@@ -16,35 +18,35 @@ const TEXT_PLACE: usize = 6;
 const ALERT_END: usize = 13;
 
 // Where a text stands in the line: from which byte on, and how many.
-#[derive(Drop)]
+#[derive(Clone, Copy)]
 pub struct Text {
     pub place: usize,
     pub length: usize,
 }
 
 // BUSY or not, and the warning by its place from 1, 0 for `--`.
-#[derive(Drop)]
+#[derive(Clone, Copy)]
 pub struct State {
     pub busy: bool,
     pub warning: usize,
 }
 
 // What a message says for its axis. A reply: OK or not, the state, the data.
-#[derive(Drop)]
+#[derive(Clone, Copy)]
 pub enum Said {
     Reply(bool, State, Text),
     Alert(State),
     Info(Text),
 }
 
-#[derive(Drop)]
+#[derive(Clone, Copy)]
 pub struct Message {
     pub address: u64,
     pub axis: u64,
     pub said: Said,
 }
 
-#[derive(Drop)]
+#[derive(Clone, Copy)]
 pub enum MessageRead {
     Message(Message),
     NotReply,
@@ -52,7 +54,7 @@ pub enum MessageRead {
 
 // Parts of a line as they are read, each with whether it is right. The front: the place of its mark in the list of marks; an
 // address, 0 where there is none; an axis, above 9 where there is none.
-#[derive(Drop)]
+#[derive(Clone, Copy)]
 struct Front {
     mark: usize,
     address: u64,
@@ -60,19 +62,19 @@ struct Front {
     right: bool,
 }
 
-#[derive(Drop)]
+#[derive(Clone, Copy)]
 struct StateRead {
     state: State,
     right: bool,
 }
 
-#[derive(Drop)]
+#[derive(Clone, Copy)]
 struct TextRead {
     text: Text,
     right: bool,
 }
 
-#[derive(Drop)]
+#[derive(Clone, Copy)]
 struct SaidRead {
     said: Said,
     right: bool,

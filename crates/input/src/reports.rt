@@ -12,14 +12,14 @@ use units::Number;
 use words::Word;
 
 // What a line is as a motor report: its three numbers, or no report.
-#[derive(Drop)]
+#[derive(Clone, Copy)]
 pub enum ReportRead {
     Report(Number, Number, Number),
     Misspelt,
 }
 
 // What a line is as a motor report for a place of a chain: the place and the report's three numbers, or no report.
-#[derive(Drop)]
+#[derive(Clone, Copy)]
 pub enum PlacedRead {
     Report(Number, Number, Number, Number),
     Misspelt,
@@ -52,7 +52,7 @@ fn behind_r(s: &[u8]) -> &[u8]
 }
 
 // A word as a number, and the place behind it.
-#[derive(Drop)]
+#[derive(Clone, Copy)]
 struct NumberAt {
     number: NumberRead,
     end: usize,

@@ -1,5 +1,7 @@
 // What a line is, as types. The code that reads a line stands in framing.rt and reading.rt.
 // The spelling is in specs/Spelling.antt, and proofs/Demand3.antt shows that just that is read.
+#![tactic(auto)]
+
 ghost use Rattle.std.specs.Prelude.{◌≡◌};
 ghost use Rattle.line.specs.Reading.{place_read};
 
@@ -9,7 +11,7 @@ use phrase::WordsRead;
 pub const LONGEST_LINE: usize = 80;
 
 // What stands between `/` and footer: so many bytes of content; or the refusal 2, 1 or 3.
-#[derive(Drop)]
+#[derive(Clone, Copy)]
 pub enum Frame {
     Content(usize),
     Refused(u8),
@@ -17,7 +19,7 @@ pub enum Frame {
 
 // A line whose frame and address are read, and no more of it: silence, with its number and its place; no address, and the place
 // where its content ends; or an address, the place behind it, and the place where its content ends.
-#[derive(Drop)]
+#[derive(Clone, Copy)]
 pub enum Opening {
     Silent(u8, u8),
     Bare(usize),
@@ -26,7 +28,7 @@ pub enum Opening {
 
 // What a line is: silence, with its number and the place that made it refuse; or an address, an axis, the place where its content
 // ends, and what the command's words come to.
-#[derive(Drop)]
+#[derive(Clone, Copy)]
 pub enum LineRead {
     Silent(u8, u8),
     Addressed(u64, u64, usize, WordsRead),

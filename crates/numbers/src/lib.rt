@@ -1,5 +1,7 @@
 // What a number's word comes to, as types; the sum of bytes. The code that reads a number stands in reading.rt.
 // The spelling is in specs/Spelling.antt, and proofs/Numbers.antt shows that just that is read.
+#![tactic(auto)]
+
 ghost use Rattle.std.specs.Prelude.{◌≡◌};
 ghost use Rattle.numbers.specs.Checksum.{checksum as checksumOf};
 
@@ -9,20 +11,20 @@ use units::Number;
 pub const HIGHEST_ADDRESS: u32 = 99;
 
 // An unsigned number; or the place of the refusal.
-#[derive(Drop)]
+#[derive(Clone, Copy)]
 pub enum UnsignedRead {
     Value(u64),
     Refused(usize),
 }
 
-#[derive(Drop)]
+#[derive(Clone, Copy)]
 pub enum NumberRead {
     Value(Number),
     Refused(usize),
 }
 
 // A byte that two hex digits say.
-#[derive(Drop)]
+#[derive(Clone, Copy)]
 pub enum PairRead {
     Value(u8),
     Refused,

@@ -1,6 +1,8 @@
 // What a command's words come to, and the row that waits for its number. The code that reads the words stands in
 // operand.rt, verbs.rt, toolwords.rt and reading.rt.
 // The spelling is in specs/Spelling.antt, and proofs/Rows.antt shows that just that is read.
+#![tactic(auto)]
+
 ghost use Rattle.std.specs.Prelude.{◌≡◌};
 ghost use Rattle.command.specs.Commands.{set_command};
 ghost use Rattle.phrase.specs.Reading.{numbered as numberedBy, made};
@@ -13,7 +15,7 @@ use units::Number;
 
 // What a command's words come to: the command, and the place where the words that it carries begin, 0 where it carries none;
 // or the number of the refusal and its place in the line.
-#[derive(Drop)]
+#[derive(Clone, Copy)]
 pub enum WordsRead {
     Command(Command, usize),
     Refused(u8, u8),
@@ -32,14 +34,14 @@ impl WordsRead {
 }
 
 // The setting that a word names.
-#[derive(Drop)]
+#[derive(Clone, Copy)]
 pub enum SettingRead {
     Is(Setting),
     Unknown,
 }
 
 // A row of the table that waits for its last number.
-#[derive(Drop)]
+#[derive(Clone, Copy)]
 pub enum Numbered {
     MoveAbs,
     MoveRel,

@@ -1,5 +1,7 @@
 // Runs whole sessions of bench from the folder data/, and tells of each whether its output is the one that is stored there.
 // NN.in is what bench reads and NN.out what it must print.
+#![tactic(auto)]
+
 ghost use Rattle.io.specs.Counts.{IsPrefixLen};
 
 use libc::STDOUT_FILENO;

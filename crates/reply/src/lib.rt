@@ -1,5 +1,7 @@
 // Writes what a device sends into a lent buffer, piece by piece: a reply's head, an alert, an info line's text; and the end of each.
 // specs/Reply.antt says how they compose.
+#![tactic(auto)]
+
 ghost use Rattle.std.specs.Prelude.{◌≡◌, [], ◌∷◌, ◌++◌, take, drop};
 ghost use Rattle.laws.specs.Text.{text};
 ghost use Rattle.laws.proofs.Spaced.{trail};
@@ -20,7 +22,7 @@ pub const LONGEST_REPLY: usize = 96;
 pub const LONGEST_ANSWER: usize = 1152;
 
 // What stands before a reply's data. The mask has a bit for each warning, the highest first.
-#[derive(Drop)]
+#[derive(Clone, Copy)]
 pub struct Head {
     pub address: u64,
     pub axis: u64,

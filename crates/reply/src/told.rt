@@ -10,7 +10,7 @@ use buffer::{put_byte, put_signed};
 use units::{Number, lesser};
 
 // The values of the axes that are listed: `many` of the four, from the place `from` on.
-#[derive(Drop)]
+#[derive(Clone, Copy)]
 pub struct Listed {
     pub from: usize,
     pub many: usize,
@@ -22,7 +22,7 @@ pub struct Listed {
 
 // 0; one value; the values of axes; the warnings of a mask; whether the device is parked; the words that stand in the line
 // from a place to another; the name of a refusal; 0, with info lines behind the reply.
-#[derive(Drop)]
+#[derive(Clone, Copy)]
 pub enum Told {
     Nought,
     One(Number),

@@ -13,7 +13,7 @@ use laws::{ACCEPTED, BADAXIS, BADCOMMAND, BADDATA, DEVICEONLY, NOACCESS, PARKED,
 use settings::device_allows;
 
 // The number of the refusal that a command meets first, or 0, and what the command demands.
-#[derive(Drop)]
+#[derive(Clone, Copy)]
 pub struct Ruled {
     pub number: u8,
     pub demands: Demands,

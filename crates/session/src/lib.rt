@@ -1,5 +1,7 @@
 // What the program `bench` does with its input: one turn a part, a line or a motor report, and the whole run.
 // specs/Bench.antt says what is printed, for every input.
+#![tactic(auto)]
+
 ghost use Rattle.std.specs.Prelude.{◌≡◌};
 ghost use Rattle.buffer.specs.Wrote.{Wrote};
 ghost use Rattle.carriage.specs.Step.{Gives};
@@ -19,7 +21,7 @@ use units::{Number, lesser};
 pub const LONGEST_INPUT: usize = 4096;
 
 // The place behind what a turn printed, and the next record.
-#[derive(Drop)]
+#[derive(Clone, Copy)]
 pub struct Turned {
     pub place: usize,
     pub next: Device,

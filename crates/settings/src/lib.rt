@@ -1,5 +1,7 @@
 // The settings of an axis, by value: range, value, and the settings with another value; and the ranges of the device's.
 // One line a setting, as in document 01's table.
+#![tactic(auto)]
+
 ghost use Rattle.std.specs.Prelude.{◌≡◌};
 ghost use Rattle.laws.specs.Lists.{all};
 ghost use Rattle.command.specs.Settings.{axis_settings};
@@ -10,14 +12,14 @@ use command::{AxisSetting, DeviceSetting};
 use units::{Number, Position, Range, Speed};
 
 // limit.min and limit.max.
-#[derive(Drop)]
+#[derive(Clone, Copy)]
 pub struct Limit {
     pub min: Position,
     pub max: Position,
 }
 
 // driver.current.max, driver.current.run and driver.current.hold.
-#[derive(Drop)]
+#[derive(Clone, Copy)]
 pub struct Current {
     pub max: Number,
     pub run: Number,
@@ -25,7 +27,7 @@ pub struct Current {
 }
 
 // The settings of an axis: `dir` is driver.dir, `index` is encoder.index.count.
-#[derive(Drop)]
+#[derive(Clone, Copy)]
 pub struct Settings {
     pub pos: Position,
     pub limit: Limit,

@@ -1,5 +1,7 @@
 // The speed program over the proved library: steps one record through one line many times. tools/speed runs it beside the plain
 // one, whose file tools/plain/speed.c says what both read and write.
+#![tactic(auto)]
+
 use device::Device;
 use input::reports::ReportRead;
 use libc::STDOUT_FILENO;

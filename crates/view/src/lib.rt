@@ -1,5 +1,7 @@
 // What a reply shows of a record: its head, and the values of the axes that a number means; in data.rt what is told of each kind.
 // specs/View.antt and specs/Data.antt say it in document 01's words.
+#![tactic(auto)]
+
 ghost use Rattle.std.specs.Prelude.{◌≡◌};
 ghost use Rattle.view.specs.View.{shown_axis, head_of, value_in, listed_for};
 
@@ -11,7 +13,7 @@ use reply::told::Listed;
 use units::Number;
 
 // What is listed of an axis.
-#[derive(Drop)]
+#[derive(Clone, Copy)]
 pub enum Value {
     Of(AxisSetting),
     Stored(Number),

@@ -281,7 +281,7 @@ first_stands s at {w} {ws} e = ⊎_elim here (λ l. absurd (none (sym (none_of s
         (record { from = p.from; some = rw end p.some; within = rw end p.within; there = rw long; others = rw end rest })
 
 -- each of the words from `at` on stands in the text at its place
-pub one_stands : (s : List ℕ) (at : ℕ) {w : Placed} {ws : List Placed} → words_at s at ≡ ws → OneOf w ws
+pub one_stands : (s : List ℕ) {w : Placed} (at : ℕ) {ws : List Placed} → words_at s at ≡ ws → OneOf w ws
     → (behind w ≤ length s) × (take (length w.bytes) (drop w.start s) ≡ w.bytes)
 one_stands s at there OneOf.first = let f = first_stands s at there in (f.within, f.there)
 one_stands s at there (OneOf.later {y = v} o) = one_stands s (behind v) (first_stands s at there).others o

@@ -1,12 +1,14 @@
 // Finds the words of a content, one behind the other, and the place of a word in a table of names.
 // specs/Spelling.antt says how a content is composed, and proofs/Content.antt shows that just these words are found.
+#![tactic(auto)]
+
 ghost use Rattle.std.specs.Prelude.{◌≡◌, drop};
 ghost use Rattle.laws.specs.Text.{same};
 ghost use Rattle.words.specs.Cutting.{start_of, end_of, word_at, cut, head_word, tail_words, past_of};
 ghost use Rattle.words.specs.Find.{index};
 
 // Where a word stands: from start to before end. Where there is none, both are the end of the text.
-#[derive(Drop)]
+#[derive(Clone, Copy)]
 pub struct Word {
     pub start: usize,
     pub end: usize,
