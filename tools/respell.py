@@ -28,7 +28,8 @@ def declared(path):
             member = True
             continue
         signature = re.match(r"(\s*)(?:(?:abbrev|unfoldable|pub)\s+)*(" + IDENT + r"+(?:\s+" + IDENT + r"+)*)\s+:\s", line)
-        if signature and (not signature.group(1) or member or len(signature.group(1)) == 2):
+        nested = re.match(r"\s+pub\s", line)
+        if signature and (not signature.group(1) or member or nested or len(signature.group(1)) == 2):
             words = signature.group(2).split()
             if len(words) == 1 or not signature.group(1) or member:
                 names += words if member else words[-1:]

@@ -61,10 +61,10 @@ module _ (d : Device) (axis kind last : Number) (b : List ℕ) where
     came : (b : Bool) → t ≡ b → alert_due (report_of kind last) (Device.report d axis (report_of kind last)) ≡ b
     came b h = rw (done, ← p) (sym u ∙ h)
 
-    pub report-quiet : t ≡ false
+    pub report_quiet : t ≡ false
         → Gives (report d axis kind last b) (record { number = o.number; length = 0; next = o.next }) b
     unfolding report
-    report-quiet h = rw (le-ltb (length b) 96 room, came false h, done) (silent_gives o.number o.next b refl)
+    report_quiet h = rw (le-ltb (length b) 96 room, came false h, done) (silent_gives o.number o.next b refl)
 
     -- an alert, for the axis k
     module _ (h : t ≡ true) {k : ℕ} (z : k ≡ place axis.0) {g : Heading} (y : g ≡ heading_of o.next k true) where
@@ -77,13 +77,13 @@ module _ (d : Device) (axis kind last : Number) (b : List ℕ) where
       few : o.next.count ≤ 4
       few = rw q (accepted_few d axis r (sym (ap (λ (x : Outcome). x.number) q) ∙ accepted))
 
-      pub alert-digit : g.head.axis < 10
-      alert-digit = head_digit o.next k true y few
+      pub alert_digit : g.head.axis < 10
+      alert_digit = head_digit o.next k true y few
 
-      pub report-alerts : {f : List ℕ} {x : ℕ} → Wrote b 0 (alert g.head g.sum) f x
+      pub report_alerts : {f : List ℕ} {x : ℕ} → Wrote b 0 (alert g.head g.sum) f x
           → Gives (report d axis kind last b) (record { number = o.number; length = x; next = o.next }) f
       unfolding report alert_of
-      report-alerts {f} {x} w =
+      report_alerts {f} {x} w =
           let wrote : Wrote b 0 (alert_of o.next (place axis.0)) f x = rw (y, z) at w in
           rw (le-ltb (length b) 96 room, came true h, done)
           (wrote_gives 0 o.next (alert_of o.next (place axis.0)) wrote (omega (arith, alert_short o.next (place axis.0) few))

@@ -80,13 +80,13 @@ module _ (d : Device) (l : List ℕ) (r : LineRead) (b : List ℕ) where
   silence_gives n w = gives_as w.answers (silent_gives n d b refl)
 
   module _ (k n : ℕ) (w : Comes d l b r (Rejected k n)) {h : Heading} (p : h ≡ heading_of d k false) where
-    pub rejection-digit : h.head.axis < 10
-    rejection-digit = head_digit d k false p (good_count d w.fair.1)
+    pub rejection_digit : h.head.axis < 10
+    rejection_digit = head_digit d k false p (good_count d w.fair.1)
 
-    pub rejection-gives : {q : ℕ} {f : List ℕ} → Wrote b 0 (reply h.head h.sum (refusal_name n)) f q
+    pub rejection_gives : {q : ℕ} {f : List ℕ} → Wrote b 0 (reply h.head h.sum (refusal_name n)) f q
         → Gives (respond d l r b) (record { number = n; length = q; next = d }) f
     unfolding rejected reply_of
-    rejection-gives v =
+    rejection_gives v =
         let fits = reply_short d k (good_count d w.fair.1) false (refusal_name n) (omega (arith, refusal_length n)) in
         gives_as w.answers (wrote_gives n d (reply_of d k false (refusal_name n)) (rw p at v) (omega (arith, fits, w.fair.0)) refl)
 
@@ -103,8 +103,8 @@ module _ (d : Device) (l : List ℕ) (r : LineRead) (b : List ℕ) where
           ap (told_text_lem l) (q.0 ∙ ap (told_of d k f y.reply from) u) ∙ told_text d k q.1 l f y.reply from end
           ∙ rw (p, w.fair.demanded) (carried_same d k (drop from (take end l)) c)
 
-      pub told-fits : length (told_text_lem l t) ≤ 74
-      told-fits = rw told-data (sound_fits d l b k from end c y w.fair)
+      pub told_fits : length (told_text_lem l t) ≤ 74
+      told_fits = rw told-data (sound_fits d l b k from end c y w.fair)
 
       told-informing : informs t ≡ Table.informs c
       told-informing =
@@ -114,17 +114,17 @@ module _ (d : Device) (l : List ℕ) (r : LineRead) (b : List ℕ) where
       answer_fits = rw (told-informing, ← command_room_lem c) w.fair.enough
 
       module _ {e : Device} (m : e ≡ next d k c) {h : Heading} (z : h ≡ heading_of e k true) where
-        pub acceptance-digit : h.head.axis < 10
-        acceptance-digit = head_digit e k true z (next_few d k c w.fair.good m)
+        pub acceptance_digit : h.head.axis < 10
+        acceptance_digit = head_digit e k true z (next_few d k c w.fair.good m)
 
         -- the reply, and the info lines behind it
         abbrev lines : List ℕ
         lines = cond (informs t) (joined-lines (info_lines h.head.address h.sum)) []
 
-        pub acceptance-gives : {x : ℕ} {g : List ℕ} → Wrote b 0 (reply h.head h.sum (told_text_lem l t) ++ lines) g x
+        pub acceptance_gives : {x : ℕ} {g : List ℕ} → Wrote b 0 (reply h.head h.sum (told_text_lem l t) ++ lines) g x
             → Gives (respond d l r b) (record { number = 0; length = x; next = e }) g
         unfolding accepted reply_of head_of
-        acceptance-gives {x} {g} v =
+        acceptance_gives {x} {g} v =
             let words = data_of d k (carried_by c (drop from (take end l))) c in
             let text = reply_of (next d k c) k true words ++ joined-lines (infos_of (next d k c) c) in
             let whole : Wrote b 0 text g x = rw (infos_as (next d k c) c, ← told-informing) (rw (z, m, told-data) at v) in

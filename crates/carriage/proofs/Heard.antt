@@ -68,13 +68,13 @@ module _ (own : ℕ) (good : Bool) (l : List ℕ) (room : ℕ) where
   heard_small h = rw (lt-ltb room 96 h)
 
   module _ (h : 96 ≤ room) where
-    pub heard-bad : not good ≡ true → Silent 21 255 ≡ heard own good l room
-    heard-bad g = rw (le-ltb room 96 h, not_true good g)
+    pub heard_bad : not good ≡ true → Silent 21 255 ≡ heard own good l room
+    heard_bad g = rw (le-ltb room 96 h, not_true good g)
 
     module _ (g : not good ≡ false) {o : Opening} (is : o ≡ open_line l) {t : Bool} (q : t ≡ foreign own o) where
-      pub heard-foreign : (leb longest_answer room && t) ≡ true → Silent 5 255 ≡ heard own good l room
-      heard-foreign e = rw (le-ltb room 96 h, not_false good g, ← is, ← q, e)
+      pub heard_foreign : (leb longest_answer room && t) ≡ true → Silent 5 255 ≡ heard own good l room
+      heard_foreign e = rw (le-ltb room 96 h, not_false good g, ← is, ← q, e)
 
-      pub heard-line : (leb longest_answer room && t) ≡ false → {r x : LineRead} → r ≡ read_on l o → x ≡ roomy room r
+      pub heard_line : (leb longest_answer room && t) ≡ false → {r x : LineRead} → r ≡ read_on l o → x ≡ roomy room r
           → x ≡ heard own good l room
-      heard-line e p z = rw (le-ltb room 96 h, not_false good g, ← is, ← q, e) (z ∙ ap (roomy room) p)
+      heard_line e p z = rw (le-ltb room 96 h, not_false good g, ← is, ← q, e) (z ∙ ap (roomy room) p)

@@ -35,11 +35,11 @@ module _ (good : Bool) (r : LineRead) (room : ℕ) where
   overheard_small h = rw (lt-ltb room 96 h)
 
   module _ (h : 96 ≤ room) where
-    pub overheard-read : good ≡ true → {x : LineRead} → x ≡ roomy room r → x ≡ overheard good r room
-    overheard-read g e = rw (le-ltb room 96 h, g) e
+    pub overheard_read : good ≡ true → {x : LineRead} → x ≡ roomy room r → x ≡ overheard good r room
+    overheard_read g e = rw (le-ltb room 96 h, g) e
 
-    pub overheard-bad : good ≡ false → Silent 21 255 ≡ overheard good r room
-    overheard-bad g = rw (le-ltb room 96 h, g)
+    pub overheard_bad : good ≡ false → Silent 21 255 ≡ overheard good r room
+    overheard_bad g = rw (le-ltb room 96 h, g)
 
 -- ---- the words that a line carries are all looked at
 module _ (d : Device) (l b : List ℕ) where

@@ -36,7 +36,7 @@ use Rattle.carriage.specs.Step.{Stepped, silent, rejected, accepted, obeyed, con
 use Rattle.carriage.specs.ReadOnce.{end_within, fitting, overheard}
 use Rattle.carriage.specs.Rulings.{foreign, roomy, heard_on, heard, rule_words, rule}
 use Rattle.carriage.proofs.Fits.{echo_short, part_short, data_fits}
-use Rattle.carriage.proofs.Steps.{respond_silent, respond-mine, respond-other, respond_not_mine, respond_short, respond_small, respond_bad}
+use Rattle.carriage.proofs.Steps.{respond_silent, respond_mine, respond_other, respond_not_mine, respond_short, respond_small, respond_bad}
 use Rattle.carriage.proofs.AnswerRoom.{most_room}
 use Rattle.carriage.proofs.Heard.{foreign_is}
 
@@ -100,7 +100,7 @@ module _ (d : Device) (l b : List ℕ) where
           es = carried_by c (drop from (take end l))
 
           whole : obeyed d k es c b ≡ respond d l (Line.Addressed a k end (Words.Command c from)) b
-          whole = respond-mine d l b room g a k end (Words.Command c from) enough h
+          whole = respond_mine d l b room g a k end (Words.Command c from) enough h
 
           go : (t : Bool) → eqb (refusal d k c) 0 ≡ t → Comes (Line.Addressed a k end (Words.Command c from))
               (cond t (Accepted k from end c (demands c)) (Rejected k (refusal d k c)))
@@ -124,7 +124,7 @@ module _ (d : Device) (l b : List ℕ) where
           → Comes (Line.Addressed a k end w) (rule_words d k end w)
       words_come (Words.Command c from) enough near = command_comes c from enough near
       words_come (Words.Refused m p) enough near =
-          record { answers = respond-mine d l b room g a k end (Words.Refused m p) enough h; fair = (room, g) }
+          record { answers = respond_mine d l b room g a k end (Words.Refused m p) enough h; fair = (room, g) }
 
     read_comes : (r : LineRead) → room_for r ≤ length b → Near r → Comes r (rule d r)
     read_comes (Line.Silent n p) enough near = record { answers = respond_silent d l b room g n p; fair = tt }
@@ -132,7 +132,7 @@ module _ (d : Device) (l b : List ℕ) where
       where
         go : (t : Bool) → concerns d a ≡ t → Comes (Line.Addressed a k end w) (cond t (rule_words d k end w) (Silent 5))
         go true e = words_come a k end e w enough near
-        go false e = record { answers = respond-other d l b room g a k end w enough e; fair = tt }
+        go false e = record { answers = respond_other d l b room g a k end w enough e; fair = tt }
 
     -- with room for the answer to it, or 20
     roomy_comes : (r : LineRead) → Near r → Comes r (rule d (roomy (length b) r))

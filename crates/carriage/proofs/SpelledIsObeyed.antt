@@ -24,7 +24,7 @@ use Rattle.rules.specs.Effects.{next, obey}
 use Rattle.reply.specs.Reply.{longest_reply}
 use Rattle.carriage.specs.Step.{Stepped, silent, written, rejected, accepted, obeyed, concerns, command_room, silence, respond, step}
 use Rattle.carriage.proofs.AnswerRoom.{command_least}
-use Rattle.carriage.proofs.Steps.{respond-mine, respond-other}
+use Rattle.carriage.proofs.Steps.{respond_mine, respond_other}
 
 -- what is read of a line l that is written for a: its command, with the words that it carries
 record Heard (l : List ℕ) (r : LineRead) (a : Asked) : Type 0 where
@@ -56,7 +56,7 @@ module _ {l : List ℕ} {a : Asked} (d : Device) (b : List ℕ) (w : Line l a) (
   spelled_is_obeyed h =
       let m = heard w in
       rw m.read
-      (sym (respond-mine d l b reply_room g a.address a.axis m.end (Words.Command a.command m.from) room h)
+      (sym (respond_mine d l b reply_room g a.address a.axis m.end (Words.Command a.command m.from) room h)
       ∙ ap (λ (es : List (List ℕ)). obeyed d a.axis es a.command b) m.echo)
 
   -- One for another device is met with silence, whatever its command: record and buffer stay.
@@ -64,7 +64,7 @@ module _ {l : List ℕ} {a : Asked} (d : Device) (b : List ℕ) (w : Line l a) (
   unfolding step
   spelled_elsewhere h =
       let m = heard w in
-      rw m.read (sym (respond-other d l b reply_room g a.address a.axis m.end (Words.Command a.command m.from) room h))
+      rw m.read (sym (respond_other d l b reply_room g a.address a.axis m.end (Words.Command a.command m.from) room h))
 
 -- What holds of every silence with a number, and of the command obeyed, holds of the answer to its line: over every record and buffer.
 pub spelled_answer : (P : Stepped → Type 0) {l : List ℕ} {a : Asked} (d : Device) (b : List ℕ) → Line l a

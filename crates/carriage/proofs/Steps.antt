@@ -40,17 +40,17 @@ module _ (d : Device) (l b : List ℕ) (room : 96 ≤ length b) (g : good d ≡ 
 
   -- and room for the answer to these words
   module _ (a k end : ℕ) (w : WordsRead) (enough : words_room w ≤ length b) where
-    pub respond-mine : concerns d a ≡ true → addressed d l k end w b ≡ respond d l (Addressed a k end w) b
+    pub respond_mine : concerns d a ≡ true → addressed d l k end w b ≡ respond d l (Addressed a k end w) b
     unfolding respond silence first_of
-    respond-mine h = rw (le-ltb (length b) 96 room, g, le-ltb (length b) (words_room w) enough, h)
+    respond_mine h = rw (le-ltb (length b) 96 room, g, le-ltb (length b) (words_room w) enough, h)
 
-    pub respond-other : concerns d a ≡ false → silent 5 d b ≡ respond d l (Addressed a k end w) b
+    pub respond_other : concerns d a ≡ false → silent 5 d b ≡ respond d l (Addressed a k end w) b
     unfolding respond silence first_of
-    respond-other h = rw (le-ltb (length b) 96 room, g, le-ltb (length b) (words_room w) enough, h)
+    respond_other h = rw (le-ltb (length b) 96 room, g, le-ltb (length b) (words_room w) enough, h)
 
   pub respond_not_mine : (r : LineRead) → room_for r ≤ length b → not_mine d r ≡ true → silent 5 d b ≡ respond d l r b
   respond_not_mine (Silent n p) enough h = clash h refl
-  respond_not_mine (Addressed a k end w) enough h = respond-other a k end w enough (not_true (concerns d a) h)
+  respond_not_mine (Addressed a k end w) enough h = respond_other a k end w enough (not_true (concerns d a) h)
 
   -- or none for it
   pub respond_short : (r : LineRead) → length b < room_for r → silent 20 d b ≡ respond d l r b

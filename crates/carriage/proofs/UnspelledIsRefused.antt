@@ -20,7 +20,7 @@ use Rattle.line.proofs.EveryLine as Frame
 use Rattle.device.specs.declared.Device.{Device}
 use Rattle.device.specs.Good.{good}
 use Rattle.carriage.specs.Step.{Stepped, silent, written, rejected, concerns, respond, step}
-use Rattle.carriage.proofs.Steps.{respond_silent, respond-mine, respond-other, respond_small, respond_bad}
+use Rattle.carriage.proofs.Steps.{respond_silent, respond_mine, respond_other, respond_small, respond_bad}
 
 -- the numbers, in the table's order
 pub data Unspelled : ℕ → Type 0 where
@@ -69,8 +69,8 @@ module _ {l : List ℕ} (d : Device) (b : List ℕ) where
     heard-refused (misspelt {m = m} {p = p} {n = n} {k = k} {end = end} c h none x) = go (concerns d n) refl
       where
         go : (t : Bool) → concerns d n ≡ t → Refused d (respond d l (Addressed n k end (WordsRead.Refused m p)) b)
-        go true e = answers (respond-mine d l b room g n k end _ room e) (aloud d b k (of_words x))
-        go false e = answers (respond-other d l b room g n k end _ room e) (quiet d b not_mine_lem)
+        go true e = answers (respond_mine d l b room g n k end _ room e) (aloud d b k (of_words x))
+        go false e = answers (respond_other d l b room g n k end _ room e) (quiet d b not_mine_lem)
     heard-refused (spelled w) = absurd (unwritten _ w)
 
   -- A line that is written for no command is refused, and the record stays as it was.

@@ -28,7 +28,7 @@ use Rattle.carriage.specs.Step.{Stepped, silent, written, reply_of, rejected, in
 use Rattle.carriage.proofs.AnswerRoom.{least_room, most_room}
 use Rattle.carriage.proofs.Room.{answer_within}
 use Rattle.carriage.proofs.SilentNumbers.{reply_some}
-use Rattle.carriage.proofs.Steps.{respond_silent, respond-mine, respond-other}
+use Rattle.carriage.proofs.Steps.{respond_silent, respond_mine, respond_other}
 use Rattle.chain.specs.Chain.{blank, next_of, text_of}
 use Rattle.chain.specs.Walk.{heeds, told}
 
@@ -146,7 +146,7 @@ module _ (d : Device) (l : List ℕ) (g : good d ≡ true) where
   quiet : (r : LineRead) → heeds d r ≡ false → (n : ℕ) × (respond d l r blank ≡ silent n d blank)
   quiet (Silent n p) h = (n, sym (respond_silent d l blank (omega (arith, blank_room)) g n p))
   quiet (Addressed a k end w) h =
-      (5, sym (respond-other d l blank (omega (arith, blank_room)) g a k end w (roomy (Addressed a k end w)) h))
+      (5, sym (respond_other d l blank (omega (arith, blank_room)) g a k end w (roomy (Addressed a k end w)) h))
 
   quiet_told : (r : LineRead) (h : heeds d r ≡ false) → (quiet r h).0 ≡ (told r 0).number
   unfolding quiet
@@ -158,13 +158,13 @@ module _ (d : Device) (l : List ℕ) (g : good d ≡ true) where
     unfolding next_of step silent
     quiet_next = ap (λ (x : Stepped). x.answer.next) (quiet (read_line l) h).1
 
-    pub quiet-number : number_alone d l ≡ (told (read_line l) 0).number
+    pub quiet_number : number_alone d l ≡ (told (read_line l) 0).number
     unfolding step silent
-    quiet-number = ap (λ (x : Stepped). x.answer.number) (quiet (read_line l) h).1 ∙ quiet_told (read_line l) h
+    quiet_number = ap (λ (x : Stepped). x.answer.number) (quiet (read_line l) h).1 ∙ quiet_told (read_line l) h
 
-    pub quiet-text : text_of l d ≡ []
+    pub quiet_text : text_of l d ≡ []
     unfolding text_of step silent
-    quiet-text = rw (quiet (read_line l) h).1
+    quiet_text = rw (quiet (read_line l) h).1
 
   -- that it concerns: an answer
   pub aloud_text : (r : LineRead) → read_line l ≡ r → heeds d r ≡ true → length (text_of l d) ≡ 0 → ⊥
@@ -173,6 +173,6 @@ module _ (d : Device) (l : List ℕ) (g : good d ≡ true) where
   aloud_text (Addressed a k end w) e h z =
       words_some d l k end w
       (ap (λ (x : Stepped). x.answer.length)
-      (respond-mine d l blank (omega (arith, blank_room)) g a k end w (roomy (Addressed a k end w)) h
+      (respond_mine d l blank (omega (arith, blank_room)) g a k end w (roomy (Addressed a k end w)) h
       ∙ ap (λ (r : LineRead). respond d l r blank) (sym e))
       ∙ sym (text_long d l) ∙ z)

@@ -33,7 +33,7 @@ use Rattle.chain.specs.declared.Pass.{Pass}
 use Rattle.chain.specs.declared.Told.{Told}
 use Rattle.chain.specs.Walk.{heeds, Taken, taken, Run, run, Walked, begun, told}
 use Rattle.chain.specs.Chain.{next_of, text_of, number_of, refusal, refusal_of, refused, responds, refuses, chain, Gives}
-use Rattle.chain.proofs.Alone.{alone, text_short, quiet_next, quiet-text, aloud_text}
+use Rattle.chain.proofs.Alone.{alone, text_short, quiet_next, quiet_text, aloud_text}
 use Rattle.chain.proofs.Walks.{taken_obeyed, taken_idle}
 
 -- ---- two texts, one behind the other, from a place k on
@@ -93,7 +93,7 @@ module _ (l : List ℕ) where
     turned-quiet e =
         let h : heeds d (read_line l) ≡ false = rw (← is) e in
         taken_idle l d p b e
-        ∙ sym (rw (quiet_next d l g h, quiet-text d l g h, add-zero p.place, take-append-drop p.place b))
+        ∙ sym (rw (quiet_next d l g h, quiet_text d l g h, add-zero p.place, take-append-drop p.place b))
 
     turned-is : taken l d p b ≡ turned d p b
     turned-is = go (heeds d p.read) refl
@@ -159,7 +159,7 @@ module _ (l : List ℕ) where
             → eqb (length (text_of l d ++ texts l ds)) 0 ≡ (not t && all (λ d. not_mine d (Addressed a k end w)) ds)
         go true e rest = ne_eqb (length (text_of l d ++ texts l ds)) 0
             (λ z. aloud_text d l one (Addressed a k end w) is e (omega (arith, z, length-append (text_of l d) (texts l ds))))
-        go false e rest = rw (quiet-text d l one (rw is e)) rest
+        go false e rest = rw (quiet_text d l one (rw is e)) rest
 
   pub told_number : (xs : List Device) → all good xs ≡ true → (length xs ≡ 0 → ⊥) → (r : LineRead) → read_line l ≡ r
       → (told r (length (texts l xs))).number ≡ number_of l xs
@@ -181,8 +181,8 @@ module _ {r : LineRead} (place : ℕ) where
     pub told_none : place ≡ 0 → record { number = 5; length = place } ≡ told r place
     told_none z = rw (e, eq-eqb place 0 z)
 
-    pub told-some : (place ≡ 0 → ⊥) → record { number = 0; length = place } ≡ told r place
-    told-some z = rw (e, ne_eqb place 0 z)
+    pub told_some : (place ≡ 0 → ⊥) → record { number = 0; length = place } ≡ told r place
+    told_some z = rw (e, ne_eqb place 0 z)
 
 told_length : (r : LineRead) (k : ℕ) → (told r k).length ≡ k
 told_length (Silent n p) k = refl
@@ -230,13 +230,13 @@ module _ (n room : ℕ) (g : Bool) (r : LineRead) where
   refused_early h = rw (ne_eqb (refusal n room g) 0 h)
 
   module _ (e : refusal n room g ≡ 0) where
-    pub refused-short : room < room_for r * n → 20 ≡ refusal_of n room g r
+    pub refused_short : room < room_for r * n → 20 ≡ refusal_of n room g r
     unfolding refusal_of first_of
-    refused-short h = rw (e, lt-ltb room (room_for r * n) h)
+    refused_short h = rw (e, lt-ltb room (room_for r * n) h)
 
-    pub refused-not : room_for r * n ≤ room → 0 ≡ refusal_of n room g r
+    pub refused_not : room_for r * n ≤ room → 0 ≡ refusal_of n room g r
     unfolding refusal_of first_of
-    refused-not h = rw (e, le-ltb room (room_for r * n) h)
+    refused_not h = rw (e, le-ltb room (room_for r * n) h)
 
 -- ---- no refusal
 module _ (n room : ℕ) (g : Bool) (r : LineRead) (e : refusal_of n room g r ≡ 0) where
@@ -276,13 +276,13 @@ module _ (n room : ℕ) (g : Bool) (l : List ℕ) {m : ℕ} (e : m ≡ refusal n
     is_line : r ≡ read_line l
     is_line = q ∙ ap (read_on l) p ∙ opened_read l
 
-    pub begun-short : {k : ℕ} → k ≡ room_for r * n → room < k → record { read = Silent 20 255; place = 0 } ≡ begun n room g l
-    begun-short is h =
-        let short = refused-short n room g (read_line l) (sym e ∙ z) (rw (is, is_line) at h) in rw (← short)
+    pub begun_short : {k : ℕ} → k ≡ room_for r * n → room < k → record { read = Silent 20 255; place = 0 } ≡ begun n room g l
+    begun_short is h =
+        let short = refused_short n room g (read_line l) (sym e ∙ z) (rw (is, is_line) at h) in rw (← short)
 
-    pub begun-read : {k : ℕ} → k ≡ room_for r * n → k ≤ room → record { read = r; place = 0 } ≡ begun n room g l
-    begun-read is h =
-        let all = refused-not n room g (read_line l) (sym e ∙ z) (rw (is, is_line) at h) in
+    pub begun_read : {k : ℕ} → k ≡ room_for r * n → k ≤ room → record { read = r; place = 0 } ≡ begun n room g l
+    begun_read is h =
+        let all = refused_not n room g (read_line l) (sym e ∙ z) (rw (is, is_line) at h) in
         rw (← all) (ap (λ (x : LineRead). record { read = x; place = 0 }) is_line)
 
 -- ---- the walk of `chain`, from its beginning on
@@ -294,8 +294,8 @@ module _ (xs : List Device) (l b : List ℕ) {g : Bool} {p : Pass} (e : g ≡ al
     }
     begins = f ∙ ap (λ (t : Bool). begun (length xs) (length b) t l) e
 
-    pub begun-fits : p.place ≤ length b
-    begun-fits = rw f (omega arith)
+    pub begun_fits : p.place ≤ length b
+    begun_fits = rw f (omega arith)
 
     pub chained : {ys : List Device} {c : List ℕ} {q : Pass} {r : Told} → Walked l p xs ys b c q → r ≡ told q.read q.place
         → Gives (chain xs l (length b)) b r ys c

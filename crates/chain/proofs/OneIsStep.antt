@@ -24,8 +24,8 @@ use Rattle.carriage.proofs.AnswerRoom.{least_room}
 use Rattle.carriage.proofs.Steps.{respond_small, respond_bad, respond_short}
 use Rattle.chain.specs.Walk.{heeds, told}
 use Rattle.chain.specs.Chain.{text_of, number_of, refusal, refused, Chained, chain}
-use Rattle.chain.proofs.Alone.{number_alone, alone, quiet-number, quiet-text, aloud_text}
-use Rattle.chain.proofs.Chains.{told_number, refused_small, unless_bad, refused_early, refused-short, refused-not}
+use Rattle.chain.proofs.Alone.{number_alone, alone, quiet_number, quiet_text, aloud_text}
+use Rattle.chain.proofs.Chains.{told_number, refused_small, unless_bad, refused_early, refused_short, refused_not}
 
 -- the number of an answer of this length
 abbrev pub unless_replied : Stepped → ℕ
@@ -63,13 +63,13 @@ module _ (d : Device) (l b : List ℕ) where
   -- and so is one of what was read, of a good record
   short : 96 ≤ length b → good d ≡ true → length b < room_for (read_line l) → refused one l (length b) ≡ 20
   short room g h =
-      sym (refused-short 1 (length b) (all good one) (read_line l) (sym (by_good room true g)) (rw (mul-one (room_for (read_line l))) h))
+      sym (refused_short 1 (length b) (all good one) (read_line l) (sym (by_good room true g)) (rw (mul-one (room_for (read_line l))) h))
 
   module _ (room : room_for (read_line l) ≤ length b) (g : good d ≡ true) where
     accepted : refused one l (length b) ≡ 0
     accepted =
         let early = by_good (omega (arith, room, least_room (read_line l))) true g in
-        sym (refused-not 1 (length b) (all good one) (read_line l) (sym early) (rw (mul-one (room_for (read_line l))) room))
+        sym (refused_not 1 (length b) (all good one) (read_line l) (sym early) (rw (mul-one (room_for (read_line l))) room))
 
     -- the number
     number_one : number_of l one ≡ cond (eqb (length (text_of l d)) 0) (number_alone d l) 0
@@ -86,7 +86,7 @@ module _ (d : Device) (l b : List ℕ) where
         go true e =
             let some = aloud_text d l g (read_line l) refl e in
             loud (read_line l) e (length (text_of l d)) some ∙ sym (rw (ne_eqb (length (text_of l d)) 0 some))
-        go false e = rw (quiet-text d l g e) (sym (quiet-number d l g e))
+        go false e = rw (quiet_text d l g e) (sym (quiet_number d l g e))
 
     heard : AsStep b (step d l b) made
     unfolding chain written joined fold

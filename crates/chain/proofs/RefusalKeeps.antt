@@ -20,7 +20,7 @@ use Rattle.carriage.proofs.Demands.{good_goes_on}
 use Rattle.chain.specs.declared.Told.{Told}
 use Rattle.chain.specs.Walk.{heeds}
 use Rattle.chain.specs.Chain.{blank, next_of, text_of, number_of, refused, Chained, responds, refuses, chain, Gives}
-use Rattle.chain.proofs.Alone.{quiet_next, quiet-text, aloud_text}
+use Rattle.chain.proofs.Alone.{quiet_next, quiet_text, aloud_text}
 use Rattle.chain.proofs.Chains.{texts, told_number, none_early, some, all_are}
 
 -- nothing is written, and the records stay
@@ -45,13 +45,13 @@ module _ (l : List ℕ) where
       go true e ih = absurd (aloud_text d l one (read_line l) refl e (omega (arith, z, length-append (text_of l d) (texts l ds))))
       go false e ih =
           let rest = ih (omega (arith, z, length-append (text_of l d) (texts l ds))) in
-          (rw (quiet_next d l one e, rest.0), rw (quiet-text d l one e) rest.1)
+          (rw (quiet_next d l one e, rest.0), rw (quiet_text d l one e) rest.1)
 
   silent_texts : (n p : ℕ) → read_line l ≡ Silent n p → (xs : List Device) → all good xs ≡ true → length (texts l xs) ≡ 0
   unfolding fold joined
   silent_texts n p e [] g = refl
   silent_texts n p e (d ∷ ds) g =
-      rw (quiet-text d l (and_left (good d) (all good ds) g) (rw e refl)) (silent_texts n p e ds (and_right (good d) (all good ds) g))
+      rw (quiet_text d l (and_left (good d) (all good ds) g) (rw e refl)) (silent_texts n p e ds (and_right (good d) (all good ds) g))
 
   -- where the number is not 0, no record has answered
   no_texts : (xs : List Device) → all good xs ≡ true → (length xs ≡ 0 → ⊥) → (number_of l xs ≡ 0 → ⊥) → length (texts l xs) ≡ 0

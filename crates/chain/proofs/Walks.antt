@@ -134,14 +134,14 @@ module _ (l : List ℕ) (p : Pass) (b : List ℕ) (xs : List Device) where
     }
     to-next = rw (add-one, take-suc xs i d h, halfway_here i d h) (run_more l (take i xs) (get_or xs i d) p b)
 
-    pub pass-next : now-taken.pass ≡ (run_to (i + 1)).pass
-    pass-next = sym (ap (λ (r : Run). r.pass) to-next)
+    pub pass_next : now-taken.pass ≡ (run_to (i + 1)).pass
+    pass_next = sym (ap (λ (r : Run). r.pass) to-next)
 
-    pub buffer-next : now-taken.buffer ≡ (run_to (i + 1)).buffer
-    buffer-next = sym (ap (λ (r : Run). r.buffer) to-next)
+    pub buffer_next : now-taken.buffer ≡ (run_to (i + 1)).buffer
+    buffer_next = sym (ap (λ (r : Run). r.buffer) to-next)
 
-    pub halfway-next : set (halfway i) i now-taken.device ≡ halfway (i + 1)
-    halfway-next =
+    pub halfway_next : set (halfway i) i now-taken.device ≡ halfway (i + 1)
+    halfway_next =
         ap (λ (z : List Device). set ((run_to i).devices ++ z) i now-taken.device) (drop-cons xs i d h)
         ∙ set_at (run_to i).devices (get_or xs i d) (drop (suc i) xs) now-taken.device i (before i (omega arith))
         ∙ sym (append_snoc (run_to i).devices now-taken.device (drop (suc i) xs))
@@ -153,11 +153,11 @@ module _ (l : List ℕ) (p : Pass) (b : List ℕ) (xs : List Device) where
       stays : now-taken ≡ idle (get_or (halfway i) i d) (run_to i).pass (run_to i).buffer
       stays = taken_idle l (get_or (halfway i) i d) (run_to i).pass (run_to i).buffer quiet
 
-      pub idle-next : set (halfway i) i (get_or (halfway i) i d) ≡ halfway (i + 1)
-      idle-next = ap (λ (t : Taken). set (halfway i) i t.device) (sym stays) ∙ halfway-next
+      pub idle_next : set (halfway i) i (get_or (halfway i) i d) ≡ halfway (i + 1)
+      idle_next = ap (λ (t : Taken). set (halfway i) i t.device) (sym stays) ∙ halfway_next
 
-      pub idle-pass : (run_to i).pass ≡ (run_to (i + 1)).pass
-      idle-pass = ap (λ (t : Taken). t.pass) (sym stays) ∙ pass-next
+      pub idle_pass : (run_to i).pass ≡ (run_to (i + 1)).pass
+      idle_pass = ap (λ (t : Taken). t.pass) (sym stays) ∙ pass_next
 
-      pub idle-buffer : (run_to i).buffer ≡ (run_to (i + 1)).buffer
-      idle-buffer = ap (λ (t : Taken). t.buffer) (sym stays) ∙ buffer-next
+      pub idle_buffer : (run_to i).buffer ≡ (run_to (i + 1)).buffer
+      idle_buffer = ap (λ (t : Taken). t.buffer) (sym stays) ∙ buffer_next

@@ -72,12 +72,12 @@ module _ (c : Cable) (p : ℕ) (axis kind last : Number) (b : List ℕ) where
         let e = lt-leb p (length (records_of c)) (omega (arith, h, records_count c full is)) in
         rw (e, and_false (leb 1 p)) (reports_none c b)
 
-    pub reported-at : (p ≡ 0 → ⊥) → p ≤ n → (d : Device) {a : Answer} {b' : List ℕ}
+    pub reported_at : (p ≡ 0 → ⊥) → p ≤ n → (d : Device) {a : Answer} {b' : List ℕ}
         → Gives (report (get_or c.devices (p - 1) d) axis kind last b) a b'
         → (let next : Cable = record { devices = set c.devices (p - 1) a.next; count = c.count } in
         Reports (outcome_at (records_of c) p axis kind last b) c (record { number = a.number; length = a.length; next = next }) b')
     unfolding outcome_at
-    reported-at z h d {a} {b'} g =
+    reported_at z h d {a} {b'} g =
         let few : p - 1 < c.count = omega (arith, z, h, is) in
         let within : p - 1 < length c.devices = omega (arith, z, h, is, full) in
         let same : report (get_or c.devices (p - 1) d) axis kind last b ≡ report (record_at (records_of c) (p - 1)) axis kind last b =

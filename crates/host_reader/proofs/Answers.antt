@@ -49,10 +49,10 @@ module _ (l : List ℕ) where
     tests : (f.right && s.right && t) ≡ right
     tests = rw (ends, what, front, at_end)
 
-    pub is-message : (f.right && s.right && t) ≡ true
+    pub is_message_lem : (f.right && s.right && t) ≡ true
         → Read.Message (record { address = f.address; axis = f.axis; said = s.said }) ≡ read_message l
     unfolding message_in
-    is-message y = rw (what, front, at_end) (sym (whole short (sym tests ∙ y)))
+    is_message_lem y = rw (what, front, at_end) (sym (whole short (sym tests ∙ y)))
 
-    pub no-message : (f.right && s.right && t) ≡ false → Read.NotReply ≡ read_message l
-    no-message y = sym (broken short (sym tests ∙ y))
+    pub no_message : (f.right && s.right && t) ≡ false → Read.NotReply ≡ read_message l
+    no_message y = sym (broken short (sym tests ∙ y))

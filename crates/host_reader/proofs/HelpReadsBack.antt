@@ -8,7 +8,7 @@ use native.Mathlib.Omega.{arith}
 use lib.Dec.{eqb, ltb, leb}
 use lib.ListN.{length, get_or}
 use lib.Seq.{take_all}
-use borrow.Author.Tests.{eqb-true, eqb-false, ltb-true, leb-true, not_true}
+use borrow.Author.Tests.{eqb-true, eqb-false, ltb-true, leb-true, not-true}
 use Rattle.laws.specs.Lists.{fold, all, span}
 use Rattle.laws.specs.Text.{text}
 use Rattle.laws.proofs.Bools.{and_left, and_right}
@@ -36,7 +36,7 @@ fits_data t h =
     let two = and_left (all_of && ltb 0 n) (not (eqb (get_or t 0 0) 32)) three in
     let size : span data_byte t ≡ n = eqb-true (span data_byte t) n (and_left all_of (ltb 0 n) two) in
     let some : 0 < n = ltb-true 0 n (and_right all_of (ltb 0 n) two) in
-    let first = not_true (eqb (get_or t 0 0) 32) (and_right (all_of && ltb 0 n) (not (eqb (get_or t 0 0) 32)) three) in (
+    let first = not-true (eqb (get_or t 0 0) 32) (and_right (all_of && ltb 0 n) (not (eqb (get_or t 0 0) 32)) three) in (
       subst Data (take_all (span data_byte t) t (omega arith)) (data_of t (omega arith) (eqb-false (get_or t 0 0) 32 first)),
       leb-true n 85 (and_right (all_of && ltb 0 n && not (eqb (get_or t 0 0) 32)) (leb n 85) h),
     )

@@ -41,7 +41,7 @@ module _ (l : List ℕ) where
 
   -- ---- the kinds
   module _ (end : ℕ) where
-    pub reply-is : {v : ℕ} {a b c : Bool} {r : List ℕ} {s : StateRead} {t : TextRead} → a ≡ stands l 5 (text " ")
+    pub reply_is : {v : ℕ} {a b c : Bool} {r : List ℕ} {s : StateRead} {t : TextRead} → a ≡ stands l 5 (text " ")
         → v ≡ index (field l 6 2) verdicts → b ≡ stands l 8 (text " ") → r ≡ drop 9 l → s ≡ state_in r → c ≡ stands l 16 (text " ")
         → t ≡ text_at l 17 end
         → record {
@@ -49,24 +49,24 @@ module _ (l : List ℕ) where
           right = a && ltb v 2 && b && s.right && c && t.right;
         } ≡ reply_in l end
     unfolding reply_in
-    reply-is a v b r s c t = rw (a, v, b, s, r, c, t)
+    reply_is a v b r s c t = rw (a, v, b, s, r, c, t)
 
     pub alert_is : {a : Bool} {r : List ℕ} {s : StateRead} → a ≡ stands l 5 (text " ") → r ≡ drop 6 l → s ≡ state_in r
         → record { said = Alert s.state; right = a && s.right && eqb end 13 } ≡ alert_in l end
     unfolding alert_in
     alert_is a r s = rw (a, s, r)
 
-    pub info-empty : end ≡ 5 → record { said = Info (record { place = 5; length = 0 }); right = true } ≡ info_in l end
+    pub info_empty : end ≡ 5 → record { said = Info (record { place = 5; length = 0 }); right = true } ≡ info_in l end
     unfolding info_in
-    info-empty h = rw (eq-eqb end 5 h)
+    info_empty h = rw (eq-eqb end 5 h)
 
     pub info_is : {a : Bool} {t : TextRead} → (end ≡ 5 → ⊥) → a ≡ stands l 5 (text " ") → t ≡ text_at l 6 end
         → record { said = Info t.text; right = a && t.right } ≡ info_in l end
     unfolding info_in
     info_is h a t = rw (ne_eqb end 5 h, a, t)
 
-    pub other-mark : (k : ℕ) {r : SaidRead} → (k ≡ 0 → ⊥) → (k ≡ 1 → ⊥) → r ≡ info_in l end → r ≡ said_in l k end
+    pub other_mark : (k : ℕ) {r : SaidRead} → (k ≡ 0 → ⊥) → (k ≡ 1 → ⊥) → r ≡ info_in l end → r ≡ said_in l k end
     unfolding said_in
-    other-mark zero p q e = absurd (p refl)
-    other-mark (suc zero) p q e = absurd (q refl)
-    other-mark (suc (suc k)) p q e = e
+    other_mark zero p q e = absurd (p refl)
+    other_mark (suc zero) p q e = absurd (q refl)
+    other_mark (suc (suc k)) p q e = e

@@ -8,7 +8,7 @@ use native.Mathlib.Omega.{arith}
 use lib.Dec.{eqb, ltb, leb}
 use lib.ListN.{length, get_or, take, drop, take-append-drop, length-drop}
 use lib.Seq.{length-take-le, take-add, drop-drop}
-use borrow.Author.Tests.{eq-eqb, ltb-true, leb-true, eqb-true, not_true}
+use borrow.Author.Tests.{eq-eqb, ltb-true, leb-true, eqb-true, not-true}
 use Rattle.laws.specs.Lists.{span}
 use Rattle.laws.specs.Text.{text, same, spaced}
 use Rattle.laws.proofs.Bools.{and_left, and_right, clash}
@@ -131,7 +131,7 @@ unfolding text_at stands field text
 text_of l s i k behind place t =
     let end = 5 + span data_byte s in
     let some : i < end = ltb-true i end (and_left (ltb i end) (not (stands l i (text " "))) t) in
-    let begins = rw behind at (not_true (stands l i (text " ")) (and_right (ltb i end) (not (stands l i (text " "))) t)) in
+    let begins = rw behind at (not-true (stands l i (text " ")) (and_right (ltb i end) (not (stands l i (text " "))) t)) in
     let size : span data_byte s ≡ k + span data_byte (drop k s) = span_from data_byte k s (omega arith) in
     let n : length (printed (drop k s)) ≡ span data_byte (drop k s) = length-take-le _ (drop k s) (span_le data_byte (drop k s)) in
     let length-is : end - i ≡ length (printed (drop k s)) = omega arith in

@@ -8,7 +8,7 @@ use Prim.Native.Nat.{ℕ, zero, suc, ◌≤◌, ◌<◌}
 use native.Mathlib.Omega.{arith}
 use lib.Dec.{eqb, leb}
 use lib.ListN.{length, get_or, take, drop}
-use borrow.Author.Tests.{eq-eqb, ne_eqb, eqb-false, le-leb, leb-true, not_true}
+use borrow.Author.Tests.{eq-eqb, ne_eqb, eqb-false, le-leb, leb-true, not-true}
 use Rattle.laws.specs.Lists.{fold, all, span}
 use Rattle.laws.specs.Text.{text, same}
 use Rattle.laws.proofs.Order.{eq_or_ne}
@@ -148,7 +148,7 @@ data_is_word c t h =
     record {
       low = lower low h;
       high = high;
-      no_colon = eqb-false c 58 (not_true (eqb c 58) (and_right (leb 32 c && leb c 126) (not (eqb c 58)) t));
+      no_colon = eqb-false c 58 (not-true (eqb c 58) (and_right (leb 32 c && leb c 126) (not (eqb c 58)) t));
     }
   where
     lower : 32 ≤ c → (c ≡ 32 → ⊥) → 33 ≤ c

@@ -53,10 +53,10 @@ module _ (address axis : ℕ) (c : Command) (message : List ℕ) where
 
   module _ (sum : Bool) where
     -- the end is written behind the content, and sums it
-    pub line-done : {b d e : List ℕ} {at r : ℕ} → Wrote b 0 (text "/" ++ content) d at → Wrote d at (line_end sum (drop 1 (take at d))) e r
+    pub line_done : {b d e : List ℕ} {at r : ℕ} → Wrote b 0 (text "/" ++ content) d at → Wrote d at (line_end sum (drop 1 (take at d))) e r
         → Wrote b 0 (line_text address axis c message sum) e r
     unfolding line_text
-    line-done {b} {d} {e} {at} v w =
+    line_done {b} {d} {e} {at} v w =
         ⊎_elim (λ (h : length b < length (text "/" ++ content)). full (text "/" ++ content) (line_end sum (drop 1 (take at d)))
         (line_end sum content) (omega arith) (v ▸ w))
         (λ h. v ▸ (rw (wrote_read v h, behind_slash) at w))

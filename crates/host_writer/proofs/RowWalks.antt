@@ -93,11 +93,11 @@ module _ {b : List ℕ} {at : ℕ} {whole : List ℕ} (f : Form) (es : List (Lis
     walk_ends h z = writing_end (rw (e, z, row_ends w vs (sym q ∙ h)) at p)
 
     module _ {d : List ℕ} {n j : ℕ} where
-      pub walk-next : t ≡ true → (k ≡ 0 → ⊥) → d ≡ c → n ≡ r → j ≡ k - 1 → Writing b at whole (filled_row f es (row_of j vs)) d n
-      walk-next h z x y i = rw (x, y, i, ← row_next w vs (sym q ∙ h) k z, ← e) p
+      pub walk_next : t ≡ true → (k ≡ 0 → ⊥) → d ≡ c → n ≡ r → j ≡ k - 1 → Writing b at whole (filled_row f es (row_of j vs)) d n
+      walk_next h z x y i = rw (x, y, i, ← row_next w vs (sym q ∙ h) k z, ← e) p
 
-      pub walk-later : t ≡ false → (k ≡ 0 → ⊥) → d ≡ c → n ≡ r → j ≡ k → Writing b at whole (filled_row f es (row_of j vs)) d n
-      walk-later h z x y i = rw (x, y, i, ← row_later w vs (sym q ∙ h) k z, ← e) p
+      pub walk_later : t ≡ false → (k ≡ 0 → ⊥) → d ≡ c → n ≡ r → j ≡ k → Writing b at whole (filled_row f es (row_of j vs)) d n
+      walk_later h z x y i = rw (x, y, i, ← row_later w vs (sym q ∙ h) k z, ← e) p
 
       pub walk_more : t ≡ false → k ≡ 0 → {g : List ℕ} {m : ℕ} → Wrote c r (trail (words_for f es w)) g m → d ≡ g → n ≡ m → j ≡ k
           → Writing b at whole (filled_row f es (row_of j vs)) d n

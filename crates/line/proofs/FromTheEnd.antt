@@ -103,9 +103,9 @@ module _ (l : List ℕ) (fits : length l ≤ 80) (first : get_or l 0 0 ≡ 47) w
       go t q h e = rw q (slash_frame t b (rw q at h) (rw q at e))
 
   module _ {f : ℕ} (size : f ≡ footer_size l) where
-    pub footer-none : f ≡ 0 → Refused 1 ≡ frame_of l
+    pub footer_none : f ≡ 0 → Refused 1 ≡ frame_of l
     unfolding not_line_lem
-    footer-none h = sym (from_end true (simp (eq-eqb (get_or l 0 0) 47 first, eq-eqb (footer_size l) 0 (sym size ∙ h))))
+    footer_none h = sym (from_end true (simp (eq-eqb (get_or l 0 0) 47 first, eq-eqb (footer_size l) 0 (sym size ∙ h))))
 
     body-test : (f ≡ 0 → ⊥) → not_line_lem l ≡ not (all printable (body l))
     unfolding not_line_lem
@@ -226,9 +226,9 @@ module _ (b : List ℕ) (c : ℕ) (is : c ≡ content_length b) where
         let n : length (take c b) ≡ c = omega (arith, length-take c b) in
         sym (ap (span no_colon_lem) (sym (take-append-drop c b)) ∙ pass_append no_colon_lem (take c b) (drop c b) k d ∙ n)
 
-    pub no-checksum : length b ≤ c → Content c ≡ body_read b
+    pub no_checksum : length b ≤ c → Content c ≡ body_read b
     unfolding body_read
-    no-checksum l =
+    no_checksum l =
         let w : take c b ≡ b = take_all c b l in
         let p : all printable b ≡ true = rw w at (and_left (all printable (take c b)) _ both) in
         let k : Passes no_colon_lem b = all_passes no_colon_lem b (rw w at (and_right (all printable (take c b)) _ both)) in
@@ -236,19 +236,19 @@ module _ (b : List ℕ) (c : ℕ) (is : c ≡ content_length b) where
         rw p (sym (no_sum b c e l))
 
     -- the checksum is right
-    pub checksum-right : {p : PairRead} {t : Bool} → c < length b → p ≡ read_pair (get_or b (c + 1) 0) (get_or b (c + 2) 0)
+    pub checksum_right_lem : {p : PairRead} {t : Bool} → c < length b → p ≡ read_pair (get_or b (c + 1) 0) (get_or b (c + 2) 0)
         → t ≡ says_sum (take c b) p → t ≡ true → Content c ≡ body_read b
     unfolding body_read
-    checksum-right l q e h =
+    checksum_right_lem l q e h =
         let r : parted b ≡ Content c = sum_is b c (colon-first l) true (behind_3 l) q (sym h ∙ e) in
         let w : Passes printable (take c b ++ drop c b) = pass_both printable _ _ printable-front (sum_printable (body_of b c r)) in
         rw (passes_all printable b (rw (take-append-drop c b) at w)) (sym r)
 
     -- it is wrong: if a byte is forbidden, it stands behind the content
-    pub checksum-wrong : {p : PairRead} {t : Bool} {r : Frame} → c < length b → p ≡ read_pair (get_or b (c + 1) 0) (get_or b (c + 2) 0)
+    pub checksum_wrong : {p : PairRead} {t : Bool} {r : Frame} → c < length b → p ≡ read_pair (get_or b (c + 1) 0) (get_or b (c + 2) 0)
         → t ≡ says_sum (take c b) p → t ≡ false → r ≡ refused_body (take (length b - c) (drop c b)) → r ≡ body_read b
     unfolding refused_body
-    checksum-wrong l q e h g =
+    checksum_wrong l q e h g =
         let w : all printable b ≡ all printable (drop c b) =
         rw (all_split printable c b, passes_all printable (take c b) printable-front) in
         g ∙ ap refused_body (rest c b) ∙ rw (← w) (sym (body_refused b (sum_is b c (colon-first l) false (behind_3 l) q (sym h ∙ e))))

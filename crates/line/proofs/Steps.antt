@@ -52,9 +52,9 @@ module _ (s : List ℕ) (at : ℕ) {a : ℕ} (q : a ≡ start_of s at) where
   axis_none l = rw (words_none s at q l)
 
   module _ (l : a < length s) where
-    pub number-first : begins_number (get_or s a 0) ≡ starts_number (head_word (bytes_of (words_at s at)))
+    pub number_first : begins_number (get_or s a 0) ≡ starts_number (head_word (bytes_of (words_at s at)))
     unfolding starts_number
-    number-first = rw (head_at s at q l)
+    number_first = rw (head_at s at q l)
 
     -- the bytes behind its first: none, a space, or more of it
     axis-by : (t : List ℕ) → drop (suc a) s ≡ t → (n : ℕ) → span no_space t ≡ n
@@ -91,18 +91,18 @@ module _ (s : List ℕ) (i : ℕ) where
   digit_none h = rw (le-ltb i (length s) h)
 
   module _ (l : i < length s) where
-    pub digit-last : length s - i ≡ 1 → value_of (get_or s i 0) ≡ digit_at s i
+    pub digit_last : length s - i ≡ 1 → value_of (get_or s i 0) ≡ digit_at s i
     unfolding digit_at
-    digit-last h = rw (lt-ltb i (length s) l, eq-eqb (length s - i) 1 h)
+    digit_last h = rw (lt-ltb i (length s) l, eq-eqb (length s - i) 1 h)
 
     module _ (h : length s - i ≡ 1 → ⊥) where
-      pub digit-alone : get_or s (i + 1) 0 ≡ 32 → value_of (get_or s i 0) ≡ digit_at s i
+      pub digit_alone : get_or s (i + 1) 0 ≡ 32 → value_of (get_or s i 0) ≡ digit_at s i
       unfolding digit_at
-      digit-alone e = rw (lt-ltb i (length s) l, ne_eqb (length s - i) 1 h, eq-eqb (get_or s (i + 1) 0) 32 e)
+      digit_alone e = rw (lt-ltb i (length s) l, ne_eqb (length s - i) 1 h, eq-eqb (get_or s (i + 1) 0) 32 e)
 
-      pub digit-longer : (get_or s (i + 1) 0 ≡ 32 → ⊥) → 99 ≡ digit_at s i
+      pub digit_longer : (get_or s (i + 1) 0 ≡ 32 → ⊥) → 99 ≡ digit_at s i
       unfolding digit_at
-      digit-longer e = rw (lt-ltb i (length s) l, ne_eqb (length s - i) 1 h, ne_eqb (get_or s (i + 1) 0) 32 e)
+      digit_longer e = rw (lt-ltb i (length s) l, ne_eqb (length s - i) 1 h, ne_eqb (get_or s (i + 1) 0) 32 e)
 
   -- where a digit is told, the place is in the content
   pub axis_there : {d : ℕ} → d ≡ digit_at s i → d < 10 → i < length s
@@ -118,9 +118,9 @@ one_byte (c ∷ d ∷ w) h = absurd (omega arith)
 module _ (s : List ℕ) (at : ℕ) {a : ℕ} (q : a ≡ start_of s at) where
   digit_axis : digit_at s a ≡ axis_digit (head_word (bytes_of (words_at s at)))
   digit_axis =
-      ⊎_elim (λ l. ⊎_elim (λ h. sym (digit-last s a l h) ∙ axis-last s at q l h)
-      (λ h. ⊎_elim (λ e. sym (digit-alone s a l h e) ∙ axis-alone s at q l h e)
-      (λ e. sym (digit-longer s a l h e) ∙ axis-longer s at q l h e)
+      ⊎_elim (λ l. ⊎_elim (λ h. sym (digit_last s a l h) ∙ axis-last s at q l h)
+      (λ h. ⊎_elim (λ e. sym (digit_alone s a l h e) ∙ axis-alone s at q l h e)
+      (λ e. sym (digit_longer s a l h e) ∙ axis-longer s at q l h e)
       (eq_or_ne (get_or s (a + 1) 0) 32)) (eq_or_ne (length s - a) 1))
       (λ l. sym (digit_none s a l) ∙ axis_none s at q l)
       (lt_or_le a (length s))
@@ -148,10 +148,10 @@ module _ (s : List ℕ) (at : ℕ) {a : ℕ} (q : a ≡ start_of s at) where
         let l = axis_there s a is h in
         rw (words_some s at q l, ← axis-first l, ← is, lt-ltb d 10 h, ← behind-axis l (rw is at h)) (ap (Addressed n d (length s)) e)
 
-    pub without-axis : {r : WordsRead} → 10 ≤ d → r ≡ read_command (words_at s at)
+    pub without_axis : {r : WordsRead} → 10 ≤ d → r ≡ read_command (words_at s at)
         → Addressed n 0 (length s) r ≡ axis_of n (length s) (words_at s at)
     unfolding axis_of
-    without-axis h e = ap (Addressed n 0 (length s)) e ∙ ⊎_elim
+    without_axis h e = ap (Addressed n 0 (length s)) e ∙ ⊎_elim
         (λ (l : a < length s). rw (words_some s at q l, ← axis-first l, ← is, le-ltb d 10 h))
         (λ (l : length s ≤ a). rw (words_none s at q l))
         (lt_or_le a (length s))

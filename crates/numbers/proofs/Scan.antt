@@ -55,21 +55,21 @@ module _ (b most from : ℕ) (w : List ℕ) where
   digits_first h = rw (drop-cons w from 0 h)
 
   module _ (n i : ℕ) (so : scan b most n i (drop i w) ≡ digits_from b most from (drop from w)) where
-    pub digits-end : length w ≤ i → Value n ≡ digits_from b most from (drop from w)
+    pub digits_end : length w ≤ i → Value n ≡ digits_from b most from (drop from w)
     unfolding scan
-    digits-end h = rw (drop_of_length-le w h) at so
+    digits_end h = rw (drop_of_length-le w h) at so
 
     module _ (h : i < length w) where
       here : scan b most n i (get_or w i 0 ∷ drop (suc i) w) ≡ digits_from b most from (drop from w)
       here = rw (drop-cons w i 0 h) at so
 
-      pub digits-stop : (ltb (value_of (get_or w i 0)) b && leb (n * b + value_of (get_or w i 0)) most) ≡ false
+      pub digits_stop : (ltb (value_of (get_or w i 0)) b && leb (n * b + value_of (get_or w i 0)) most) ≡ false
           → Refused i ≡ digits_from b most from (drop from w)
-      digits-stop k = sym (scan_ends b most n i (get_or w i 0) (drop (suc i) w) k) ∙ here
+      digits_stop k = sym (scan_ends b most n i (get_or w i 0) (drop (suc i) w) k) ∙ here
 
-      pub digits-small : (ltb (value_of (get_or w i 0)) b && leb (n * b + value_of (get_or w i 0)) most) ≡ true
+      pub digits_small : (ltb (value_of (get_or w i 0)) b && leb (n * b + value_of (get_or w i 0)) most) ≡ true
           → n * b + value_of (get_or w i 0) ≤ most
-      digits-small k = scan_small b most n i (get_or w i 0) [] k
+      digits_small k = scan_small b most n i (get_or w i 0) [] k
 
       pub digits_more : (ltb (value_of (get_or w i 0)) b && leb (n * b + value_of (get_or w i 0)) most) ≡ true
           → scan b most (n * b + value_of (get_or w i 0)) (i + 1) (drop (i + 1) w) ≡ digits_from b most from (drop from w)
@@ -120,16 +120,16 @@ module _ (w : List ℕ) (i : ℕ) where
   hex_end h = rw (drop_of_length-le w h)
 
   module _ (h : i < length w) where
-    pub hex-last : length w ≤ i + 1 → false ≡ starts_hex (drop i w)
-    hex-last k =
+    pub hex_last : length w ≤ i + 1 → false ≡ starts_hex (drop i w)
+    hex_last k =
         let m : length w ≤ suc i = omega arith in
         rw (drop-cons w i 0 h, drop_of_length-le w m) (sym (hex_one (get_or w i 0)))
 
-    pub hex-other : (get_or w i 0 ≡ 48 → ⊥) → false ≡ starts_hex (drop i w)
-    hex-other k = rw (drop-cons w i 0 h) (sym (hex_not_0 (get_or w i 0) (drop (suc i) w) k))
+    pub hex_other : (get_or w i 0 ≡ 48 → ⊥) → false ≡ starts_hex (drop i w)
+    hex_other k = rw (drop-cons w i 0 h) (sym (hex_not_0 (get_or w i 0) (drop (suc i) w) k))
 
-    pub hex-next : i + 1 < length w → get_or w i 0 ≡ 48 → eqb (get_or w (i + 1) 0) 120 ≡ starts_hex (drop i w)
-    hex-next k e =
+    pub hex_next : i + 1 < length w → get_or w i 0 ≡ 48 → eqb (get_or w (i + 1) 0) 120 ≡ starts_hex (drop i w)
+    hex_next k e =
         let m : suc i < length w = omega arith in
         rw (drop-cons w i 0 h, drop-cons w (suc i) 0 m, e, add-one) (sym (hex_second (get_or w (suc i) 0) (drop (suc (suc i)) w)))
 

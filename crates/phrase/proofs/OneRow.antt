@@ -94,12 +94,12 @@ table_apart : all_apart table ≡ true
 unfolding fold same text
 table_apart = refl
 
-one_passes : (f : Row → Bool) {rs : List Row} {r : Row} → all f rs ≡ true → OneOf r rs → f r ≡ true
+one_passes : (f : Row → Bool) {r : Row} {rs : List Row} → all f rs ≡ true → OneOf r rs → f r ≡ true
 unfolding fold
 one_passes f {r = r} e (OneOf.first {xs = rs}) = and_left (f r) (all f rs) e
 one_passes f e (OneOf.later {y = q} {xs = rs} o) = one_passes f (and_right (f q) (all f rs) e) o
 
-among_place : {rs : List Row} {r : Row} (ws : List Placed) → all_apart rs ≡ true → OneOf r rs → its_row ws r ≡ true
+among_place : {r : Row} {rs : List Row} (ws : List Placed) → all_apart rs ≡ true → OneOf r rs → its_row ws r ≡ true
     → place_among rs ws ≡ first_refused (places r) ws
 unfolding place_among
 among_place ws e OneOf.first h = rw h

@@ -98,21 +98,21 @@ module _ (s : List ℕ) (at : ℕ) {w : Word} (is : w ≡ word_at s at) where
 
   -- there is none: `warnings` alone; no word at all; a number that is missing
   module _ (e : w.start ≡ w.end) where
-    pub warnings-alone : Words.Command (OfAxes Warnings) 0 ≡ read_warnings words
+    pub warnings_alone : Words.Command (OfAxes Warnings) 0 ≡ read_warnings words
     unfolding read_warnings
-    warnings-alone = rw (words_empty s at is e)
+    warnings_alone = rw (words_empty s at is e)
 
-    pub command-none : Words.Command (OfAxes Nothing) 0 ≡ read_command words
+    pub command_none : Words.Command (OfAxes Nothing) 0 ≡ read_command words
     unfolding read_command
-    command-none = rw (words_empty s at is e)
+    command_none = rw (words_empty s at is e)
 
     pub number_none : (k : Numbered) → misspelt ≡ one_number k words
     unfolding one_number
     number_none k = rw (words_empty s at is e)
 
-    pub store-none : misspelt ≡ read_storepos words
+    pub store_none : misspelt ≡ read_storepos words
     unfolding read_storepos
-    store-none = rw (words_empty s at is e)
+    store_none = rw (words_empty s at is e)
 
   -- there is one
   module _ (h : w.start ≡ w.end → ⊥) where
@@ -121,20 +121,20 @@ module _ (s : List ℕ) (at : ℕ) {w : Word} (is : w ≡ word_at s at) where
     unfolding read_warnings
     warnings_clear e z = rw (words_full s at is h, e) z
 
-    pub warnings-other : same first (text "clear") ≡ false → misspelt ≡ read_warnings words
+    pub warnings_other : same first (text "clear") ≡ false → misspelt ≡ read_warnings words
     unfolding read_warnings
-    warnings-other e = rw (words_full s at is h, e)
+    warnings_other e = rw (words_full s at is h, e)
 
-    pub command-first : {r : WordsRead} → r ≡ meaning_of unknown first (firsts rest) → r ≡ read_command words
+    pub command_first : {r : WordsRead} → r ≡ meaning_of unknown first (firsts rest) → r ≡ read_command words
     unfolding read_command
-    command-first z = rw (words_full s at is h) z
+    command_first z = rw (words_full s at is h) z
 
     -- a is where `start_of` finds that a second word may start: the first one is a number and is the last
     module _ {a : ℕ} (q : a ≡ start_of s w.end) (k : Numbered) where
-      pub number-alone : {n : NumberRead} {r : WordsRead} → length s ≤ a → n ≡ read_number_lem first → r ≡ made k w.start n
+      pub number_alone_lem : {n : NumberRead} {r : WordsRead} → length s ≤ a → n ≡ read_number_lem first → r ≡ made k w.start n
           → r ≡ one_number k words
       unfolding one_number
-      number-alone l e z = rw (words_full s at is h, words_none s w.end q l, ← e) z
+      number_alone_lem l e z = rw (words_full s at is h, words_none s w.end q l, ← e) z
 
       pub number_more : a < length s → misspelt ≡ one_number k words
       unfolding one_number
@@ -145,26 +145,26 @@ module _ (s : List ℕ) (at : ℕ) {w : Word} (is : w ≡ word_at s at) where
       abbrev second : List ℕ
       second = take (v.end - v.start) (drop v.start s)
 
-      pub store-one : {r : WordsRead} → v.start ≡ v.end → r ≡ made With.Store w.start n → r ≡ read_storepos words
+      pub store_one : {r : WordsRead} → v.start ≡ v.end → r ≡ made With.Store w.start n → r ≡ read_storepos words
       unfolding read_storepos
-      store-one d z = rw (words_full s at is h, words_empty s w.end is-second d, ← e) z
+      store_one d z = rw (words_full s at is h, words_empty s w.end is-second d, ← e) z
 
       -- a is where `start_of` finds that a third word may start
       module _ (g : v.start ≡ v.end → ⊥) {a : ℕ} (q : a ≡ start_of s v.end) where
-        pub store-more : a < length s → misspelt ≡ read_storepos words
+        pub store_more : a < length s → misspelt ≡ read_storepos words
         unfolding read_storepos
-        store-more l = rw (words_full s at is h, words_full s w.end is-second g, words_some s v.end q l)
+        store_more l = rw (words_full s at is h, words_full s w.end is-second g, words_some s v.end q l)
 
         module _ (l : length s ≤ a) where
-          pub store-current : {r : WordsRead} → same second (text "current") ≡ true → r ≡ made With.StoreCurrent w.start n
+          pub store_current : {r : WordsRead} → same second (text "current") ≡ true → r ≡ made With.StoreCurrent w.start n
               → r ≡ read_storepos words
           unfolding read_storepos
-          store-current t z = rw (words_full s at is h, words_full s w.end is-second g, words_none s v.end q l, t, ← e) z
+          store_current t z = rw (words_full s at is h, words_full s w.end is-second g, words_none s v.end q l, t, ← e) z
 
-          pub store_at : {r : WordsRead} → same second (text "current") ≡ false → r ≡ store_at w.start n (placed v.start second)
+          pub store_at_lem : {r : WordsRead} → same second (text "current") ≡ false → r ≡ store_at w.start n (placed v.start second)
               → r ≡ read_storepos words
           unfolding read_storepos
-          store_at t z = rw (words_full s at is h, words_full s w.end is-second g, words_none s v.end q l, t, ← e) z
+          store_at_lem t z = rw (words_full s at is h, words_full s w.end is-second g, words_none s v.end q l, t, ← e) z
 
   -- where a number that is read there refuses is a place of the text
   pub number_places : Fits w64 (length s) → {n : NumberRead} → n ≡ read_number_lem first → Places w.start n

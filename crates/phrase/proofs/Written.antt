@@ -8,7 +8,7 @@ use native.Mathlib.Omega.{arith}
 use lib.Dec.{eqb, leb}
 use lib.IntN.{ℤ}
 use lib.ListN.{get_or}
-use borrow.Author.Tests.{leb-true, eqb-false, not_true}
+use borrow.Author.Tests.{leb-true, eqb-false, not-true}
 use Rattle.laws.specs.Lists.{fold, all}
 use Rattle.laws.specs.Text.{text}
 use Rattle.laws.proofs.Bools.{and_left, and_right}
@@ -84,7 +84,7 @@ byte_of c e =
     record {
       low = leb-true 33 c (and_left (leb 33 c) (leb c 126 && not (eqb c 58)) e);
       high = leb-true c 126 (and_left (leb c 126) (not (eqb c 58)) r);
-      no_colon = eqb-false c 58 (not_true (eqb c 58) (and_right (leb c 126) (not (eqb c 58)) r));
+      no_colon = eqb-false c 58 (not-true (eqb c 58) (and_right (leb c 126) (not (eqb c 58)) r));
     }
 
 pub word_of : (w : List ℕ) → is_word w ≡ true → Word w

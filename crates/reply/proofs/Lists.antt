@@ -62,13 +62,13 @@ module _ (left i : ℕ) where
   -- a turn: the name behind a space where its bit is 1, and nothing where it is not
   module _ (h : i < 8) {b : List ℕ} {at : ℕ} {whole c d : List ℕ} {r q : ℕ}
       (p : Writing b at whole (named (bits (8 - i) left) (drop i warning_names)) c r) where
-    pub names-yes : left % 2 ≡ 1 → {e : List ℕ} {n : ℕ} → Wrote c r (space ∷ warning_at i) e n → d ≡ e → q ≡ n
+    pub names_yes : left % 2 ≡ 1 → {e : List ℕ} {n : ℕ} → Wrote c r (space ∷ warning_at i) e n → d ≡ e → q ≡ n
         → Writing b at whole (named (bits (8 - (i + 1)) (left / 2)) (drop (i + 1) warning_names)) d q
-    names-yes t v x y = rw (x, y) (writing_more (rw (names_more h, eq-eqb (left % 2) 1 t) at p) v)
+    names_yes t v x y = rw (x, y) (writing_more (rw (names_more h, eq-eqb (left % 2) 1 t) at p) v)
 
-    pub names-no : (left % 2 ≡ 1 → ⊥) → d ≡ c → q ≡ r
+    pub names_no : (left % 2 ≡ 1 → ⊥) → d ≡ c → q ≡ r
         → Writing b at whole (named (bits (8 - (i + 1)) (left / 2)) (drop (i + 1) warning_names)) d q
-    names-no t x y = rw (x, y) (rw (names_more h, ne_eqb (left % 2) 1 t) at p)
+    names_no t x y = rw (x, y) (rw (names_more h, ne_eqb (left % 2) 1 t) at p)
 
 -- ---- the words of an echo: ws are those that are left
 pub echo_none : (ws : List (List ℕ)) → ws ≡ [] → echoed ws ≡ text "0"

@@ -68,8 +68,8 @@ module _ (v : Listed) (from many : ℕ) (f : from ≡ min v.from 4) (m : many �
           → Wrote b at (values (take (i + 1) (listed_of v))) e t
       listed_next z u y k w = rw (one_more, ← values_next (take i (listed_of v)) x (omega (arith, so_far))) (p ▸ u ▸ (rw (y, k) at w))
 
-      pub listed-first : i ≤ 0 → d ≡ c → s ≡ r → Wrote d s (decimal x.0) e t → Wrote b at (values (take (i + 1) (listed_of v))) e t
-      listed-first z y k w = rw (one_more, ← values_first (take i (listed_of v)) x (omega (arith, so_far))) (p ▸ (rw (y, k) at w))
+      pub listed_first : i ≤ 0 → d ≡ c → s ≡ r → Wrote d s (decimal x.0) e t → Wrote b at (values (take (i + 1) (listed_of v))) e t
+      listed_first z y k w = rw (one_more, ← values_first (take i (listed_of v)) x (omega (arith, so_far))) (p ▸ (rw (y, k) at w))
 
 -- ---- the part of a line: a part of what stands before a place is a part of the whole
 before_place : (i n e : ℕ) (l : List ℕ) → i + n ≤ e → take n (drop i (take e l)) ≡ take n (drop i l)

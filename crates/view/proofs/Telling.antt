@@ -77,12 +77,12 @@ module _ (d : Device) (k : ℕ) (four : length d.axes ≡ 4) where
     unfolding axis_at
     at_place i w n h e = e ∙ ap (value_in v) (there d.axes i w fresh_axis (omega arith))
 
-    pub listed-is : (p : Stretch) (w x y z : Axis) (a b c e : Number) → p ≡ stretch_of (many d k) k
+    pub listed_is : (p : Stretch) (w x y z : Axis) (a b c e : Number) → p ≡ stretch_of (many d k) k
         → a ≡ value_in v (get_or d.axes 0 w) → b ≡ value_in v (get_or d.axes 1 x)
         → c ≡ value_in v (get_or d.axes 2 y) → e ≡ value_in v (get_or d.axes 3 z)
         → listed p.from p.many a b c e ≡ listed_for v d k
     unfolding listed_for
-    listed-is p w x y z a b c e q f g h i =
+    listed_is p w x y z a b c e q f g h i =
         rw (q, at_place 0 w a (omega arith) f, at_place 1 x b (omega arith) g)
         (rw (at_place 2 y c (omega arith) h, at_place 3 z e (omega arith) i))
 

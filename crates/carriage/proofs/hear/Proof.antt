@@ -1,6 +1,6 @@
 -- 20, 21, a foreign address, or the whole line, with room for its answer.
 -- Assumes nothing.
-use Rattle.carriage.proofs.Heard.{heard_small, heard-bad, heard-foreign, heard-line}
+use Rattle.carriage.proofs.Heard.{heard_small, heard_bad, heard_foreign, heard_line}
 use borrow.Author.Rules.{rules}
 use Rattle.carriage.proofs.hear.Statement.{statement}
 use Rattle.carriage.proofs.hear.Tie as tie
@@ -13,7 +13,7 @@ returns-2 : tie.Need-returns-2
 returns-2 c =
     let if1 = c.before in
     let a = if1.before.before.args in
-    heard-bad a.own_val a.good a.line.now a.room if1.if1.false c.if2.true
+    heard_bad a.own_val a.good a.line.now a.room if1.if1.false c.if2.true
 
 returns-3 : tie.Need-returns-3
 returns-3 c =
@@ -21,7 +21,7 @@ returns-3 c =
     let opened = foreign.before in
     let if2 = opened.before in
     let a = if2.before.before.before.args in
-    heard-foreign a.own_val a.good a.line.now a.room if2.before.if1.false if2.if2.false
+    heard_foreign a.own_val a.good a.line.now a.room if2.before.if1.false if2.if2.false
     opened.open-line.ensures foreign.foreign.ensures c.if3.true
 
 returns-4 : tie.Need-returns-4
@@ -32,7 +32,7 @@ returns-4 c =
     let opened = foreign.before in
     let if2 = opened.before in
     let a = if2.before.before.before.args in
-    heard-line a.own_val a.good a.line.now a.room if2.before.if1.false if2.if2.false
+    heard_line a.own_val a.good a.line.now a.room if2.before.if1.false if2.if2.false
     opened.open-line.ensures foreign.foreign.ensures if3.if3.false
     line.read-line.ensures.0 c.with-room.ensures
 

@@ -1,6 +1,6 @@
 -- No room, an alert, or none.
 -- Assumes nothing.
-use Rattle.carriage.proofs.Alerts.{report_shut, alert-digit, report-alerts, report-quiet}
+use Rattle.carriage.proofs.Alerts.{report_shut, alert_digit, report_alerts, report_quiet}
 use borrow.Author.Rules.{rules}
 use Rattle.carriage.proofs.report.Statement.{statement}
 use Rattle.carriage.proofs.report.Tie as tie
@@ -20,7 +20,7 @@ put-alert-requires c κs =
     let if1 = kind.before in
     let a = if1.before.before.args in (
       if1.if1.false,
-      alert-digit a.d a.axis a.kind a.last a.alert.now if1.if1.false kind.report-of.ensures
+      alert_digit a.d a.axis a.kind a.last a.alert.now if1.if1.false kind.report-of.ensures
           done.report.ensures wanted.alert-wanted.ensures if2.if2.true place.place.ensures heading.heading-of.ensures,
     )
 
@@ -35,7 +35,7 @@ returns-2 c =
     let kind = done.before in
     let if1 = kind.before in
     let a = if1.before.before.args in
-    report-alerts a.d a.axis a.kind a.last a.alert.now if1.if1.false kind.report-of.ensures
+    report_alerts a.d a.axis a.kind a.last a.alert.now if1.if1.false kind.report-of.ensures
     done.report.ensures wanted.alert-wanted.ensures if2.if2.true place.place.ensures heading.heading-of.ensures
     alert.put-alert.ensures
 
@@ -47,7 +47,7 @@ returns-3 c =
     let kind = done.before in
     let if1 = kind.before in
     let a = if1.before.before.args in
-    report-quiet a.d a.axis a.kind a.last a.alert.now if1.if1.false kind.report-of.ensures
+    report_quiet a.d a.axis a.kind a.last a.alert.now if1.if1.false kind.report-of.ensures
     done.report.ensures wanted.alert-wanted.ensures c.if2.false
 
 pub report-spec : {M : Type 1} → statement M

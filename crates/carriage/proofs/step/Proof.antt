@@ -5,7 +5,7 @@ use mathlib.Core.Path.{refl, ◌∙◌}
 use native.Mathlib.Omega.{arith}
 use Rattle.reply.proofs.Lengths.{refusal_length}
 use Rattle.carriage.specs.Step.{step}
-use Rattle.carriage.proofs.Answers.{comes_as, silence_gives, rejection-digit, rejection-gives, joined, told-fits, answer_fits, acceptance-digit, acceptance-gives}
+use Rattle.carriage.proofs.Answers.{comes_as, silence_gives, rejection_digit, rejection_gives, joined, told_fits, answer_fits, acceptance_digit, acceptance_gives}
 use borrow.Author.Rules.{rules}
 use Rattle.carriage.proofs.step.Statement.{statement}
 use Rattle.carriage.proofs.step.Tie as tie
@@ -21,7 +21,7 @@ put-reply-requires c κs =
     let a = good.before.before.before.args in
     let w = comes_as a.d a.line.now a.reply.now good.good2.ensures own.place.ensures hear.hear.ensures
     rule.rule.ensures told.k.given.1 in
-    (w.fair.0, rejection-digit _ _ _ _ _ _ w heading.heading-of.ensures, omega (arith, refusal_length told.k.given.0.1.0))
+    (w.fair.0, rejection_digit _ _ _ _ _ _ w heading.heading-of.ensures, omega (arith, refusal_length told.k.given.0.1.0))
 
 put-answer-requires : tie.Need-put-answer-requires
 put-answer-requires c κs =
@@ -39,8 +39,8 @@ put-answer-requires c κs =
     let next = ⊎_elim (λ n. n.2 ∙ n.1.ensures) (λ n. joined _ _ _ _ _ _ _ _ _ w n.0.left n.1) if1.if1.branch in
     let form = told.before.form.ensures in (
       answer_fits _ _ _ _ _ _ _ _ _ w form refl told.told.ensures,
-      acceptance-digit _ _ _ _ _ _ _ _ _ w form refl told.told.ensures next heading.heading-of2.ensures,
-      told-fits _ _ _ _ _ _ _ _ _ w form refl told.told.ensures,
+      acceptance_digit _ _ _ _ _ _ _ _ _ w form refl told.told.ensures next heading.heading-of2.ensures,
+      told_fits _ _ _ _ _ _ _ _ _ w form refl told.told.ensures,
     )
 
 returns : tie.Need-returns
@@ -69,7 +69,7 @@ returns-2 c =
     let a = good.before.before.before.args in
     let w = comes_as a.d a.line.now a.reply.now good.good2.ensures own.place.ensures hear.hear.ensures
     rule.rule.ensures told.k.given.1 in
-    rejection-gives _ _ _ _ _ _ w heading.heading-of.ensures reply.put-reply.ensures
+    rejection_gives _ _ _ _ _ _ w heading.heading-of.ensures reply.put-reply.ensures
 
 returns-3 : tie.Need-returns-3
 unfolding step
@@ -87,7 +87,7 @@ returns-3 c =
     let w = comes_as a.d a.line.now a.reply.now good.good2.ensures own.place.ensures hear.hear.ensures
     rule.rule.ensures k2.k2.given.1 in
     let next = ⊎_elim (λ n. n.2 ∙ n.1.ensures) (λ n. joined _ _ _ _ _ _ _ _ _ w n.0.left n.1) if1.if1.branch in
-    acceptance-gives _ _ _ _ _ _ _ _ _ w told.before.form.ensures refl told.told.ensures next heading.heading-of2.ensures
+    acceptance_gives _ _ _ _ _ _ _ _ _ w told.before.form.ensures refl told.told.ensures next heading.heading-of2.ensures
     reply.put-answer.ensures
 
 pub step_spec : {M : Type 1} → statement M

@@ -1,7 +1,7 @@
 -- The refusal; or no room for every answer to what is read of the line; or that.
 -- Assumes nothing.
 use mathlib.Core.Path.{sym, ◌∙◌}
-use Rattle.chain.proofs.Chains.{few, begun_refused, begun-short, begun-read}
+use Rattle.chain.proofs.Chains.{few, begun_refused, begun_short, begun_read}
 use borrow.Author.Rules.{rules}
 use Rattle.chain.proofs.begin.Statement.{statement}
 use Rattle.chain.proofs.begin.Tie as tie
@@ -22,7 +22,7 @@ returns-2 c =
     let read = c.before.before in
     let if1 = read.before.before in
     let a = if1.before.before.before.args in
-    begun-short a.n a.room a.good a.line.now if1.before.refusal.ensures if1.if1.false
+    begun_short a.n a.room a.good a.line.now if1.before.refusal.ensures if1.if1.false
     read.before.open-line.ensures read.read-line.ensures.0 c.before.room-for-all.ensures c.if2.true
 
 returns-3 : tie.Need-returns-3
@@ -30,7 +30,7 @@ returns-3 c =
     let read = c.before.before in
     let if1 = read.before.before in
     let a = if1.before.before.before.args in
-    begun-read a.n a.room a.good a.line.now if1.before.refusal.ensures if1.if1.false
+    begun_read a.n a.room a.good a.line.now if1.before.refusal.ensures if1.if1.false
     read.before.open-line.ensures read.read-line.ensures.0 c.before.room-for-all.ensures c.if2.false
 
 pub begin-spec : {M : Type 1} → statement M

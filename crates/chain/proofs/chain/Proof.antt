@@ -26,7 +26,7 @@ use Rattle.device.specs.Good.{good}
 use Rattle.chain.specs.Walk.{Fits, Walked, begun, told}
 use Rattle.chain.specs.Chain.{Gives, chain as chain-of}
 use Rattle.chain.proofs.Walks.{run_length, run_room}
-use Rattle.chain.proofs.Chains.{begun-fits, chained}
+use Rattle.chain.proofs.Chains.{begun_fits, chained}
 use Rattle.chain.proofs.Look.{LentShared, shares_at, shared_back}
 use Rattle.chain.specs.contracts.Told as N
 use Rattle.chain.proofs.Told.TheLaws as N'
@@ -79,7 +79,7 @@ use denote.Triple.Walked.{says, Stays, stay_none_slice, stay_slice, walk_of, sta
 use denote.Exit.{yes as kept}
 use Rattle.device.specs.declared.Device.{Device}
 use Rattle.chain.specs.declared.Pass.{Pass}
-use Rattle.chain.proofs.Again.{LentAgain, lends-at, back_at}
+use Rattle.chain.proofs.Again.{LentAgain, lends_at, back_at}
 use Rattle.device.specs.contracts.Device as D
 use Rattle.chain.specs.contracts.Pass as P
 use Rattle.chain.proofs.Pass.TheLaws as P'
@@ -295,10 +295,10 @@ module _ {M : Type 1} {𝓤 : Ura M} (𝓛 : Logic 𝓤) (mem : Memory → SProp
   calls-walk Γ fm known ys zs p len len' good fits os k =
       lft_new ! tt (λ ν. move ! (1 ∷ 2 ∷ []) $
       use2 𝓛 (later (some (λ (δ : GName). ‵ (LentDev ν δ ys) ⊛ ‵ (LentAgain R κ₀ (ν ∷ []) q₀ γ b o δ ys))))
-      (lends-at R κ₀ (ν ∷ []) q₀ γ b o 𝓛 (named 0) (named 0) ys n len) $ await ! tt $ pick ! (λ δ. split ! $
+      (lends_at R κ₀ (ν ∷ []) q₀ γ b o 𝓛 (named 0) (named 0) ys n len) $ await ! tt $ pick ! (λ δ. split ! $
       lft_new ! tt (λ ν'. move ! (4 ∷ 5 ∷ []) $
       use2 𝓛 (later (some (λ (δ' : GName). ‵ (LentReply ν' δ' zs) ⊛ ‵ (LentAgain u8 κ₂ (ν' ∷ []) q₂ γ' b' o' δ' zs))))
-      (lends-at u8 κ₂ (ν' ∷ []) q₂ γ' b' o' 𝓛 (named 2) (named 2) zs m len') $ await ! tt $ pick ! (λ δ'. split ! $
+      (lends_at u8 κ₂ (ν' ∷ []) q₂ γ' b' o' 𝓛 (named 2) (named 2) zs m len') $ await ! tt $ pick ! (λ δ'. split ! $
       move ! (6 ∷ []) $ use1 𝓛 (‵ OwnLine ⊛ ‵ OwnLine) ((shr_slice_copy 𝓛 (named 1) κ₁ u8).twice ln (s₂ ∷ [])) $ split ! $
       -- [the line; the line; the reply lent; what its holder keeps; ν'; the devices lent; what their holder keeps; ν; the line's token; Γ]
       move ! (7 ∷ 8 ∷ 4 ∷ 5 ∷ 0 ∷ 2 ∷ []) $ group ! 6 $ use1 𝓛 (raw ((WalkC 𝓛 mem run).pre (to-walk ν δ ys ν' δ' zs p)))
@@ -525,7 +525,7 @@ module _ {M : Type 1} {𝓤 : Ura M} (𝓛 : Logic 𝓤) (mem : Memory → SProp
           (and_then ! (load ! (from ! (fld ! refl (stop !))) (look_in ! 28 (sub ! 1 refl (whole !)))) (no_more !)))) (from ! (stop !))
           (init ! 6 refl (tt, (tt, (record { fits = room-rp.0 }, tt)))) $
           calls-walk 𝓛 mem run κ₀ κ₁ κ₂ q₀ q₁ q₂ b o γ n ln b' o' γ' m room room-ln room-rp _ fm k-walk xs bs r refl refl
-          (good_of r u is) (begun-fits xs ln.now bs e₀ e) (λ ν δ ν' δ'. and_then ! (load ! (from ! (stop !)) (look ! 8 refl))
+          (good_of r u is) (begun_fits xs ln.now bs e₀ e) (λ ν δ ν' δ'. and_then ! (load ! (from ! (stop !)) (look ! 8 refl))
           (and_then ! (load ! (from ! (stop !)) (look ! 28 refl)) (and_then ! (load ! (from ! (stop !)) (look ! 4 refl))
           (and_then ! (load ! (from ! (stop !)) (look ! 22 refl)) (no_more !))))) (λ u₁ r₁ ys zs e₁ is₁.
           land ! (from ! (stop !)) (init ! 22 refl (typed r₁ u₁ is₁)) $

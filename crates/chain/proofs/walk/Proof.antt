@@ -64,8 +64,8 @@ use Rattle.units.specs.Units.{number}
 use Rattle.device.specs.Record.{fresh}
 use Rattle.chain.specs.Walk.{heeds, Taken, obeyed, taken, Fits, Took, Walked, run as run_of}
 use Rattle.chain.proofs.Size.{record_bytes}
-use Rattle.chain.proofs.Walks.{run_room, run_fits, taken_obeyed, run_to, halfway, halfway_length, halfway_all, halfway-next, pass-next, buffer-next, idle-next, idle-pass, idle-buffer}
-use Rattle.chain.proofs.Again.{LentAgain, lends-at, back_at}
+use Rattle.chain.proofs.Walks.{run_room, run_fits, taken_obeyed, run_to, halfway, halfway_length, halfway_all, halfway_next, pass_next, buffer_next, idle_next, idle_pass, idle_buffer}
+use Rattle.chain.proofs.Again.{LentAgain, lends_at, back_at}
 use Rattle.device.specs.contracts.Device as D
 use Rattle.device.proofs.Device.TheLaws as D'
 use Rattle.chain.specs.contracts.Pass as P
@@ -357,7 +357,7 @@ module _ {M : Type 1} {𝓤 : Ura M} (𝓛 : Logic 𝓤) (mem : Memory → SProp
       ∙ holds y h))) g
 
   to-pass : (i : ℕ) (zs : List ℕ) (r : Turn) → i < n → HasTaken i zs r → r.pass ≡ pass-at (i + 1)
-  to-pass i zs r less e = e.pass ∙ pass-next ln.now st bs xs i none less
+  to-pass i zs r less e = e.pass ∙ pass_next ln.now st bs xs i none less
 
   abbrev next : (t : State) → t.0 < n → (r : Turn) (zs : List ℕ) → HasTaken t.0 zs r → Good r.pass → State
   next t less r zs e good = (t.0 + 1, omega arith, subst Good (to-pass t.0 zs r less e) good)
@@ -455,7 +455,7 @@ module _ {M : Type 1} {𝓤 : Ura M} (𝓛 : Logic 𝓤) (mem : Memory → SProp
         -- the reply is lent again, for a lifetime ν of the call, and the line is had twice
         lft_new ! tt (λ ν. move ! (7 ∷ 8 ∷ []) $
         use2 𝓛 (later (some (λ (δ : GName). ‵ (Lent ν δ zs) ⊛ ‵ (LentAgain u8 κ₂ (ν ∷ []) q₂ γ' b' o' δ zs))))
-        (lends-at u8 κ₂ (ν ∷ []) q₂ γ' b' o' 𝓛 (named 2) (named 1) zs m (buffer-length i)) $ await ! tt $ pick ! (λ δ. split ! $
+        (lends_at u8 κ₂ (ν ∷ []) q₂ γ' b' o' 𝓛 (named 2) (named 1) zs m (buffer-length i)) $ await ! tt $ pick ! (λ δ. split ! $
         move ! (9 ∷ []) $ use1 𝓛 (‵ OwnLine ⊛ ‵ OwnLine) ((shr_slice_copy 𝓛 (named 1) κ₁ u8).twice ln (s₂ ∷ [])) $ split ! $
         -- [the line; the line; the reply lent; what its holder keeps; ν; the element; what it owns; the others; the open borrow; obs; auth;
         -- the line's token; the locals]
@@ -501,8 +501,8 @@ module _ {M : Type 1} {𝓤 : Ura M} (𝓛 : Logic 𝓤) (mem : Memory → SProp
         owned ! R (Is R) (LL.makes D.the_type D'.the_plain 𝓛) r.device _ dev-is $
         move ! (7 ∷ 0 ∷ 8 ∷ []) $ elem_put ! R full_share (devices-at i) i r.device (mach r.device) b o within $
         rewrite ! 0 (λ (k : List Device). ‵ (row R full_share k b o)) (ap (set (devices-at i) i) e.device
-        ∙ halfway-next ln.now st bs xs i none less) refl $
-        rewrite ! 1 (λ (k : List ℕ). ‵ (OwnReply k)) (e.buffer ∙ buffer-next ln.now st bs xs i none less) refl $
+        ∙ halfway_next ln.now st bs xs i none less) refl $
+        rewrite ! 1 (λ (k : List ℕ). ‵ (OwnReply k)) (e.buffer ∙ buffer_next ln.now st bs xs i none less) refl $
         keep ! (0 ∷ 7 ∷ 8 ∷ 9 ∷ 1 ∷ 2 ∷ 6 ∷ 4 ∷ 10 ∷ 11 ∷ 12 ∷ 13 ∷ 14 ∷ 15 ∷ 16 ∷ 17 ∷ 18 ∷ 19 ∷ 20 ∷ 21 ∷ 22 ∷ 23 ∷ 24 ∷ 25 ∷ 26 ∷ 27 ∷ 28
         ∷ 29 ∷ 30 ∷ 31 ∷ 32 ∷ 33 ∷ 34 ∷ 35 ∷ 36 ∷ 37 ∷ 38 ∷ 39 ∷ 40 ∷ 41 ∷ 42 ∷ 43 ∷ 44 ∷ 45 ∷ 46 ∷ 47 ∷ []) $
         assigns_last ! (of_opd ! (load ! (from ! (fld ! {τ = P'.mir} {d = record_bytes} refl (stop !)))
@@ -520,13 +520,13 @@ module _ {M : Type 1} {𝓤 : Ura M} (𝓛 : Logic 𝓤) (mem : Memory → SProp
         -- the element is put back as it was
         skips ! $ exec ! C Λ En counts (any_q (Turns t)) $
         elem_put ! R full_share (devices-at i) i d (mach d) b o within $
-        rewrite ! 0 (λ (k : List Device). ‵ (row R full_share k b o)) (idle-next ln.now st bs xs i none less quiet) refl $
-        rewrite ! 4 (λ (k : List ℕ). ‵ (OwnReply k)) (idle-buffer ln.now st bs xs i none less quiet) refl $
-        rewrite ! 32 (λ (k : Pass). ‵ (fat full_share P'.mir l₆ 0 (pv k))) (idle-pass ln.now st bs xs i none less quiet) refl $
+        rewrite ! 0 (λ (k : List Device). ‵ (row R full_share k b o)) (idle_next ln.now st bs xs i none less quiet) refl $
+        rewrite ! 4 (λ (k : List ℕ). ‵ (OwnReply k)) (idle_buffer ln.now st bs xs i none less quiet) refl $
+        rewrite ! 32 (λ (k : Pass). ‵ (fat full_share P'.mir l₆ 0 (pv k))) (idle_pass ln.now st bs xs i none less quiet) refl $
         assigns_last ! (bin ! (load ! (from ! (stop !)) (look ! 34 refl)) (lit ! tt) (record { fits = next_fits i less })) (from ! (stop !))
         (store ! 34 refl (tt, record { fits = next_fits i less })) $
         forget ! 20 refl $ forget ! 22 refl $ forget ! 24 refl $ forget ! 26 refl $ forget ! 28 refl $
-        again ! Nearer At t (i + 1, omega arith, subst Good (idle-pass ln.now st bs xs i none less quiet) t.2) (omega arith)))))))
+        again ! Nearer At t (i + 1, omega arith, subst Good (idle_pass ln.now st bs xs i none less quiet) t.2) (omega arith)))))))
 
     ends : (t : State) → n ≤ t.0 → Sq 𝓛 (At t) (runs C Λ En mirs.turn_1 (any_q (Turns t)))
     unfolding after_turn

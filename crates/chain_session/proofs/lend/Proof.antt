@@ -52,7 +52,7 @@ use Rattle.device.specs.contracts.Device as D
 use Rattle.device.proofs.Device.TheLaws as D'
 use Rattle.chain.specs.declared.Told.{Told}
 use Rattle.chain.specs.Chain.{Gives, chain as chain-of}
-use Rattle.chain.proofs.Again.{LentAgain, lends-at, back_at}
+use Rattle.chain.proofs.Again.{LentAgain, lends_at, back_at}
 use Rattle.chain.specs.contracts.Told as N
 use Rattle.chain.proofs.Told.TheLaws as N'
 use Rattle.chain.specs.contracts.chain as chain'
@@ -61,7 +61,7 @@ use Rattle.chain.proofs.chain.Symbol.{name as #chain·chain}
 use Rattle.chain.proofs.chain.Met as chain-thm
 use Rattle.chain_session.specs.declared.Lent.{Lent}
 use Rattle.chain_session.specs.Held.{Lends}
-use Rattle.chain_session.proofs.OwnArray.{Lender, lends-array, array_back}
+use Rattle.chain_session.proofs.OwnArray.{Lender, lends_array, array_back}
 use Rattle.chain_session.specs.contracts.Lent as L
 use Rattle.chain_session.proofs.Lent.TheLaws as L'
 use Rattle.chain_session.specs.contracts.keep as keep'
@@ -359,10 +359,10 @@ module _ {M : Type 1} {𝓤 : Ura M} (𝓛 : Logic 𝓤) (mem : Memory → SProp
         -- the array is lent for a lifetime ν, and the reply for a lifetime ν'
         lft_new ! tt (λ ν. move ! (17 ∷ []) $
         use1 𝓛 (later (some (λ (δ : GName). ‵ (LentDev l₅ ν δ) ⊛ ‵ (Lender R tt 16 l₅ (ν ∷ []) xs n δ))))
-        (lends-array R tt 16 l₅ (ν ∷ []) xs n 𝓛 plain-devices within (named 0) xv xs-is room) $ await ! tt $ pick ! (λ δ. split ! $
+        (lends_array R tt 16 l₅ (ν ∷ []) xs n 𝓛 plain-devices within (named 0) xv xs-is room) $ await ! tt $ pick ! (λ δ. split ! $
         lft_new ! tt (λ ν'. move ! (4 ∷ 5 ∷ []) $
         use2 𝓛 (later (some (λ (δ' : GName). ‵ (LentReply ν' δ') ⊛ ‵ (LentAgain u8 κ₁ (ν' ∷ []) q₁ γ' b' o' δ' bs))))
-        (lends-at u8 κ₁ (ν' ∷ []) q₁ γ' b' o' 𝓛 (named 1) (named 2) bs m refl) $ await ! tt $ pick ! (λ δ'. split ! $
+        (lends_at u8 κ₁ (ν' ∷ []) q₁ γ' b' o' 𝓛 (named 1) (named 2) bs m refl) $ await ! tt $ pick ! (λ δ'. split ! $
         move ! (6 ∷ []) $ use1 𝓛 (‵ OwnLine ⊛ ‵ OwnLine) ((shr_slice_copy 𝓛 (named 0) κ₀ u8).twice ln (s₂ ∷ [])) $ split ! $
         -- [the line; the line; the reply lent; what its holder keeps; ν'; the records lent; what their holder keeps; ν; the line's token;
         -- the locals]

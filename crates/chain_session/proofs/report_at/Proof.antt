@@ -3,7 +3,7 @@
 use mathlib.Core.Path.{◌≡◌}
 use lib.ListN.{length}
 use Rattle.view.proofs.Telling.{unmapped}
-use Rattle.chain_session.proofs.Turns.{no_place, beyond, reported-at}
+use Rattle.chain_session.proofs.Turns.{no_place, beyond, reported_at}
 use borrow.Author.Rules.{rules}
 use Rattle.chain_session.proofs.report_at.Statement.{statement}
 use Rattle.chain_session.proofs.report_at.Tie as tie
@@ -27,7 +27,7 @@ returns-3 c =
     let if2 = answer.before.before.before.before in
     let s = if2.before.before.before.before in
     let a = s.args in
-    reported-at a.c a.place a.axis a.kind a.last a.alert.now (sixteen s) if2.before.lesser.ensures
+    reported_at a.c a.place a.axis a.kind a.last a.alert.now (sixteen s) if2.before.lesser.ensures
     if2.before.before.if1.false if2.if2.false _ answer.report.ensures
 
 pub report-at-spec : {M : Type 1} → statement M

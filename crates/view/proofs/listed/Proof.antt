@@ -2,7 +2,7 @@
 -- Assumes nothing.
 use mathlib.Core.Path.{◌≡◌}
 use lib.ListN.{length}
-use Rattle.view.proofs.Telling.{unmapped, listed-is}
+use Rattle.view.proofs.Telling.{unmapped, listed_is}
 use borrow.Author.Rules.{rules}
 use Rattle.view.proofs.listed.Statement.{statement}
 use Rattle.view.proofs.listed.Tie as tie
@@ -16,7 +16,7 @@ returns c =
     let second = third.before.before in
     let first = second.before.before in
     let s = first.before.before.before.before in
-    listed-is s.args.d s.args.k (four s) s.args.v _ _ _ _ _ _ _ _ _ first.before.before.stretch.ensures
+    listed_is s.args.d s.args.k (four s) s.args.v _ _ _ _ _ _ _ _ _ first.before.before.stretch.ensures
     first.value_of_lem.ensures second.value-of2.ensures third.value-of3.ensures c.value-of4.ensures
 
 pub listed-spec : {M : Type 1} → statement M

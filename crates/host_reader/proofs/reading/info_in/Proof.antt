@@ -1,13 +1,13 @@
 -- `host_reader::reading::info_in` meets its contract: no text, or one behind a space.
 -- Assumes nothing.
 use Rattle.laws.specs.Text.{text}
-use Rattle.host_reader.proofs.Parts.{info-empty, info_is}
+use Rattle.host_reader.proofs.Parts.{info_empty, info_is}
 use borrow.Author.Rules.{rules}
 use Rattle.host_reader.proofs.reading.info_in.Statement.{statement}
 use Rattle.host_reader.proofs.reading.info_in.Tie as tie
 
 returns : tie.Need-returns
-returns c = info-empty _ _ c.if1.true
+returns c = info_empty _ _ c.if1.true
 
 returns-2 : tie.Need-returns-2
 unfolding text

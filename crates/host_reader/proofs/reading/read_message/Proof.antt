@@ -1,6 +1,6 @@
 -- `host_reader::reading::read_message` meets its contract: too long a line, a message, or none.
 -- Assumes nothing.
-use Rattle.host_reader.proofs.Answers.{too_long, is-message, no-message, told}
+use Rattle.host_reader.proofs.Answers.{too_long, is_message_lem, no_message, told}
 use borrow.Author.Rules.{rules}
 use Rattle.host_reader.proofs.reading.read_message.Statement.{statement}
 use Rattle.host_reader.proofs.reading.read_message.Tie as tie
@@ -15,7 +15,7 @@ returns-2 c =
     let front = said.before in
     let end = front.before in
     told _
-    (is-message _ _ _ _ _ end.before.if1.false end.content-end.ensures front.read-front.ensures said.said_in.ensures
+    (is_message_lem _ _ _ _ _ end.before.if1.false end.content-end.ensures front.read-front.ensures said.said_in.ensures
     ends.is-ended.ensures c.if2.true)
 
 returns-3 : tie.Need-returns-3
@@ -25,7 +25,7 @@ returns-3 c =
     let front = said.before in
     let end = front.before in
     told _
-    (no-message _ _ _ _ _ end.before.if1.false end.content-end.ensures front.read-front.ensures said.said_in.ensures
+    (no_message _ _ _ _ _ end.before.if1.false end.content-end.ensures front.read-front.ensures said.said_in.ensures
     ends.is-ended.ensures c.if2.false)
 
 pub read-message-spec : {M : Type 1} → statement M

@@ -3,7 +3,7 @@
 use Rattle.laws.specs.Text.{text}
 use Rattle.words.specs.Cutting.{cut, is_space, no_space, grow_at, words_from}
 use Rattle.host_reader.specs.Reading.{verdicts}
-use Rattle.host_reader.proofs.Parts.{word_is, reply-is}
+use Rattle.host_reader.proofs.Parts.{word_is, reply_is}
 use borrow.Author.Rules.{rules}
 use Rattle.host_reader.proofs.reading.reply_in.Statement.{statement}
 use Rattle.host_reader.proofs.reading.reply_in.Tie as tie
@@ -20,7 +20,7 @@ returns c =
     let cut_out = verdict.before.before in
     let first = cut_out.before in
     let a = first.before.before.before.args in
-    reply-is a.line.now a.end
+    reply_is a.line.now a.end
     first.stands_at.ensures
     (word_is a.line.now 6 2 _ verdicts cut_out.field.ensures verdict.find-word.ensures)
     second.stands-at2.ensures

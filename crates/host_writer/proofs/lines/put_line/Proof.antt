@@ -3,7 +3,7 @@
 use Rattle.laws.specs.Text.{text}
 use Rattle.buffer.proofs.Wrote.{◌▸◌}
 use Rattle.host_writer.specs.Writing.{line_end}
-use Rattle.host_writer.proofs.LineTexts.{content_is, line-done}
+use Rattle.host_writer.proofs.LineTexts.{content_is, line_done}
 use borrow.Author.Rules.{rules}
 use Rattle.host_writer.proofs.lines.put_line.Statement.{statement}
 use Rattle.host_writer.proofs.lines.put_line.Tie as tie
@@ -16,7 +16,7 @@ returns c =
     let command = sum.before.before.before.before in
     let front = command.before.before.before.before in
     let content = rw (content_is _ _ _ _) at (front.put_front.ensures ▸ command.put-command.ensures) in
-    line-done _ _ _ _ _ content (sum.put-sum.ensures ▸ lf.put_byte.ensures)
+    line_done _ _ _ _ _ content (sum.put-sum.ensures ▸ lf.put_byte.ensures)
 
 pub put-line-spec : {M : Type 1} → statement M
 put-line-spec =

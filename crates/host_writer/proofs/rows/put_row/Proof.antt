@@ -11,7 +11,7 @@ use Rattle.words.proofs.Cut.{word_none, word_some}
 use Rattle.buffer.proofs.Wrote.{wrote_length}
 use Rattle.reply.proofs.Writing.{Writing, writing_first}
 use Rattle.host_writer.specs.Rows.{row_of, filled_row}
-use Rattle.host_writer.proofs.RowWalks.{no_words, fewer, walk_none, walk_ends, walk-next, walk-later, walk_more}
+use Rattle.host_writer.proofs.RowWalks.{no_words, fewer, walk_none, walk_ends, walk_next, walk_later, walk_more}
 use borrow.Author.Rules.{rules}
 use Rattle.host_writer.proofs.rows.put_row.Statement.{statement}
 use Rattle.host_writer.proofs.rows.put_row.Tie as tie
@@ -72,9 +72,9 @@ loop-again c =
     let inv = l.loop.invariant in
     let is = word_is c in
     let asked = ends.ends-row.ensures in
-    ⊎_elim (λ w. walk-next _ _ _ inv is asked w.0.taken w.1.left w.2 w.3 w.4)
+    ⊎_elim (λ w. walk_next _ _ _ inv is asked w.0.taken w.1.left w.2 w.3 w.4)
     (⊎_elim (λ w. walk_more _ _ _ inv is asked w.0.left w.1.taken w.3.ensures w.6 w.7 w.8)
-    (λ w. walk-later _ _ _ inv is asked w.0.left w.1.left w.2 w.3 w.4))
+    (λ w. walk_later _ _ _ inv is asked w.0.left w.1.left w.2 w.3 w.4))
     c.before.if2.branch
 
 same-length-3 : tie.Need-same-length-3 invariant-loop decreases-loop

@@ -4,7 +4,7 @@ use lib.ListN.{length-take}
 use mathlib.Core.Path.{sym, ◌∙◌}
 use native.Mathlib.Omega.{arith}
 use borrow.Author.Rules.{rules}
-use Rattle.line.proofs.FromTheEnd.{content_in, behind_3, no-checksum, checksum-right, checksum-wrong, content_bad}
+use Rattle.line.proofs.FromTheEnd.{content_in, behind_3, no_checksum, checksum_right_lem, checksum_wrong, content_bad}
 use Rattle.line.proofs.framing.read_body.Statement.{statement}
 use Rattle.line.proofs.framing.read_body.Tie as tie
 
@@ -16,7 +16,7 @@ returns c =
     let if1 = c.before in
     let all_plain = if1.before in
     let content-len = all_plain.before.before in
-    no-checksum _ _ content-len.content-len.ensures (sym all_plain.all_plain.ensures ∙ if1.if1.true) c.if2.true
+    no_checksum _ _ content-len.content-len.ensures (sym all_plain.all_plain.ensures ∙ if1.if1.true) c.if2.true
 
 slice-aggregate-says-sum : tie.Need-slice-aggregate-says-sum
 slice-aggregate-says-sum c = simp length-take (omega arith)
@@ -39,7 +39,7 @@ returns-2 c =
     let if1 = if2.before in
     let all_plain = if1.before in
     let content-len = all_plain.before.before in
-    checksum-right _ _ content-len.content-len.ensures (sym all_plain.all_plain.ensures ∙ if1.if1.true) if2.if2.false
+    checksum_right_lem _ _ content-len.content-len.ensures (sym all_plain.all_plain.ensures ∙ if1.if1.true) if2.if2.false
     read-pair.read-pair.ensures says-sum.says-sum.ensures c.if3.true
 
 returns-3 : tie.Need-returns-3
@@ -51,7 +51,7 @@ returns-3 c =
     let if1 = if2.before in
     let all_plain = if1.before in
     let content-len = all_plain.before.before in
-    checksum-wrong _ _ content-len.content-len.ensures (sym all_plain.all_plain.ensures ∙ if1.if1.true) if2.if2.false
+    checksum_wrong _ _ content-len.content-len.ensures (sym all_plain.all_plain.ensures ∙ if1.if1.true) if2.if2.false
     read-pair.read-pair.ensures says-sum.says-sum.ensures if3.if3.false c.refusal.ensures
 
 returns-4 : tie.Need-returns-4

@@ -1,7 +1,7 @@
 -- Too long, empty, without its `/`, without a footer, or read between the two.
 -- Assumes nothing.
 use Rattle.line.proofs.Frames.{too_long, empty, no_slash}
-use Rattle.line.proofs.FromTheEnd.{footer_fits, footer-none, footer_some}
+use Rattle.line.proofs.FromTheEnd.{footer_fits, footer_none, footer_some}
 use native.Mathlib.Omega.{arith}
 use mathlib.Core.Path.{sym}
 use borrow.Author.Rules.{rules}
@@ -24,7 +24,7 @@ returns-4 : tie.Need-returns-4
 returns-4 c =
     let footer-size = c.before in
     let if3 = footer-size.before in
-    footer-none _ if3.before.before.before.if1.false if3.if3.false footer-size.footer-size.ensures c.if4.true
+    footer_none _ if3.before.before.before.if1.false if3.if3.false footer-size.footer-size.ensures c.if4.true
 
 sub-read-body : tie.Need-overflow-sub-read-body
 sub-read-body c =

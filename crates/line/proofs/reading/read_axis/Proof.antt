@@ -1,6 +1,6 @@
 -- The first word behind the address is the axis, or the command begins with it.
 -- Assumes nothing.
-use Rattle.line.proofs.Steps.{axis_there, with_axis, without-axis}
+use Rattle.line.proofs.Steps.{axis_there, with_axis, without_axis}
 use native.Mathlib.Omega.{arith}
 use borrow.Author.Rules.{rules}
 use Rattle.line.proofs.reading.read_axis.Statement.{statement}
@@ -20,7 +20,7 @@ returns c =
 returns-2 : tie.Need-returns-2
 returns-2 c =
     let digit = c.before.before in
-    without-axis _ _ digit.before.start_of_lem.ensures _ digit.digit_at.ensures c.before.if1.false c.read-command2.ensures.0
+    without_axis _ _ digit.before.start_of_lem.ensures _ digit.digit_at.ensures c.before.if1.false c.read-command2.ensures.0
 
 pub read-axis-spec : {M : Type 1} → statement M
 read-axis-spec =

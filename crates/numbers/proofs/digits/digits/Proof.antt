@@ -42,7 +42,7 @@ returns-2 : tie.Need-returns-2 invariant-loop decreases-loop
 returns-2 c =
     let digit_value = c.before in
     let l = digit_value.before.before in
-    scan-laws.digits-stop _ _ _ _ _ _ l.before.loop.invariant.2 l.loop-test.true
+    scan-laws.digits_stop _ _ _ _ _ _ l.before.loop.invariant.2 l.loop-test.true
     (rw digit_value.digit_value.ensures at c.if2.false)
 
 add-i : tie.Need-overflow-add-i invariant-loop decreases-loop
@@ -57,12 +57,12 @@ loop-again c =
     let l = c.before.before.before in
     let t = rw d at c.if2.true in (
       omega arith,
-      rw d (scan-laws.digits-small _ _ _ _ _ _ l.before.loop.invariant.2 l.loop-test.true t),
+      rw d (scan-laws.digits_small _ _ _ _ _ _ l.before.loop.invariant.2 l.loop-test.true t),
       rw d (scan-laws.digits_more _ _ _ _ _ _ l.before.loop.invariant.2 l.loop-test.true t),
     )
 
 returns-3 : tie.Need-returns-3 invariant-loop decreases-loop
-returns-3 c = scan-laws.digits-end _ _ _ _ _ _ c.before.loop.invariant.2 c.loop-test.false
+returns-3 c = scan-laws.digits_end _ _ _ _ _ _ c.before.loop.invariant.2 c.loop-test.false
 
 pub digits-spec : {M : Type 1} → statement M
 digits-spec =

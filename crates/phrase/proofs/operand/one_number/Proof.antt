@@ -1,7 +1,7 @@
 -- One word is left and is read as a number; none is too few, a second one too many.
 -- Assumes nothing.
 use Rattle.words.proofs.Cut.{word_whole, word_within}
-use Rattle.phrase.proofs.Steps.{number_none, number-alone, number_more, number_places}
+use Rattle.phrase.proofs.Steps.{number_none, number_alone_lem, number_more, number_places}
 use borrow.Author.Rules.{rules}
 use Rattle.phrase.proofs.operand.one_number.Statement.{statement}
 use Rattle.phrase.proofs.operand.one_number.Tie as tie
@@ -40,7 +40,7 @@ returns-3 c =
     let start_of_lem = if2.before in
     let if1 = start_of_lem.before in
     let word_at = if1.before in
-    number-alone _ word_at.before.before.args.at word_at.word_at.ensures if1.if1.false start_of_lem.start_of_lem.ensures _
+    number_alone_lem _ word_at.before.before.args.at word_at.word_at.ensures if1.if1.false start_of_lem.start_of_lem.ensures _
     if2.if2.false read_number.read_number.ensures c.made.ensures
 
 pub one-number-spec : {M : Type 1} → statement M

@@ -3,7 +3,7 @@
 use mathlib.Core.Path.{sym, ◌∙◌}
 use Rattle.laws.specs.Text.{text}
 use Rattle.words.proofs.Cut.{word_whole, word_within}
-use Rattle.phrase.proofs.Steps.{warnings-alone, warnings_clear, warnings-other}
+use Rattle.phrase.proofs.Steps.{warnings_alone, warnings_clear, warnings_other}
 use borrow.Author.Rules.{rules}
 use Rattle.phrase.proofs.reading.read_warnings.Statement.{statement}
 use Rattle.phrase.proofs.reading.read_warnings.Tie as tie
@@ -11,7 +11,7 @@ use Rattle.phrase.proofs.reading.read_warnings.Tie as tie
 returns : tie.Need-returns
 returns c =
     let word_at = c.before in
-    warnings-alone _ word_at.before.before.args.at word_at.word_at.ensures c.if1.true
+    warnings_alone _ word_at.before.before.args.at word_at.word_at.ensures c.if1.true
 
 sub-same-bytes : tie.Need-overflow-sub-same-bytes
 sub-same-bytes c = word_whole _ _ c.before.word_at.ensures
@@ -38,7 +38,7 @@ returns-3 c =
     let same_bytes = c.before in
     let if1 = same_bytes.before.before.before in
     let word_at = if1.before in
-    warnings-other _ word_at.before.before.args.at word_at.word_at.ensures if1.if1.false
+    warnings_other _ word_at.before.before.args.at word_at.word_at.ensures if1.if1.false
     (sym same_bytes.same_bytes.ensures ∙ c.if2.false)
 
 pub read-warnings-spec : {M : Type 1} → statement M

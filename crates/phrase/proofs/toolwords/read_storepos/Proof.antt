@@ -3,7 +3,7 @@
 use mathlib.Core.Path.{refl, sym, ◌∙◌}
 use Rattle.laws.specs.Text.{text}
 use Rattle.words.proofs.Cut.{word_whole, word_within}
-use Rattle.phrase.proofs.Steps.{store-none, store-one, store-more, store-current, store_at, number_places}
+use Rattle.phrase.proofs.Steps.{store_none, store_one, store_more, store_current, store_at, number_places}
 use borrow.Author.Rules.{rules}
 use Rattle.phrase.proofs.toolwords.read_storepos.Statement.{statement}
 use Rattle.phrase.proofs.toolwords.read_storepos.Tie as tie
@@ -11,7 +11,7 @@ use Rattle.phrase.proofs.toolwords.read_storepos.Tie as tie
 returns : tie.Need-returns
 returns c =
     let first = c.before in
-    store-none _ first.before.before.args.at first.word_at.ensures c.if1.true
+    store_none _ first.before.before.args.at first.word_at.ensures c.if1.true
 
 sub-read-number : tie.Need-overflow-sub-read-number
 sub-read-number c = word_whole _ _ c.before.word_at.ensures
@@ -35,7 +35,7 @@ returns-2 c =
     let n = second.before in
     let if1 = n.before.before in
     let first = if1.before in
-    store-one _ first.before.before.args.at first.word_at.ensures if1.if1.false second.word-at2.ensures
+    store_one _ first.before.before.args.at first.word_at.ensures if1.if1.false second.word-at2.ensures
     n.read_number.ensures if2.if2.true c.made.ensures
 
 returns-3 : tie.Need-returns-3
@@ -46,7 +46,7 @@ returns-3 c =
     let n = second.before in
     let if1 = n.before.before in
     let first = if1.before in
-    store-more _ first.before.before.args.at first.word_at.ensures if1.if1.false second.word-at2.ensures
+    store_more _ first.before.before.args.at first.word_at.ensures if1.if1.false second.word-at2.ensures
     n.read_number.ensures if2.if2.false third.start_of_lem.ensures c.if3.true
 
 sub-v : tie.Need-overflow-sub-v
@@ -75,7 +75,7 @@ returns-4 c =
     let n = second.before in
     let if1 = n.before.before in
     let first = if1.before in
-    store-current _ first.before.before.args.at first.word_at.ensures if1.if1.false second.word-at2.ensures
+    store_current _ first.before.before.args.at first.word_at.ensures if1.if1.false second.word-at2.ensures
     n.read_number.ensures if2.if2.false if3.before.start_of_lem.ensures if3.if3.false
     (sym same_bytes.same_bytes.ensures ∙ if4.if4.true) c.made2.ensures
 

@@ -9,7 +9,7 @@ use Rattle.laws.proofs.Spaced.{trail}
 use Rattle.flags.specs.Flags.{bits, named, warning_names}
 use Rattle.buffer.proofs.Wrote.{◌▸◌, wrote_length}
 use Rattle.reply.proofs.Writing.{Writing, writing_first, writing_end}
-use Rattle.reply.proofs.Lists.{list_split, names-yes, names-no, names_end}
+use Rattle.reply.proofs.Lists.{list_split, names_yes, names_no, names_end}
 use Rattle.reply.proofs.data.put_warnings.Statement.{statement}
 use Rattle.reply.proofs.data.put_warnings.Tie as tie
 
@@ -34,8 +34,8 @@ loop-again c =
     let l = c.before.before.loop in
     let i = c.before.loop-test.true in (
       omega arith,
-      ⊎_elim (λ w. names-yes _ _ i l.invariant.1 w.0.taken (w.2.ensures ▸ w.6.ensures) w.9 w.10)
-          (λ w. names-no _ _ i l.invariant.1 w.0.left w.1 w.2)
+      ⊎_elim (λ w. names_yes _ _ i l.invariant.1 w.0.taken (w.2.ensures ▸ w.6.ensures) w.9 w.10)
+          (λ w. names_no _ _ i l.invariant.1 w.0.left w.1 w.2)
           c.if1.branch,
     )
 

@@ -8,7 +8,7 @@ use Rattle.buffer.specs.Wrote.{Wrote}
 use Rattle.buffer.proofs.Wrote.{wrote_length}
 use Rattle.reply.specs.Data.{values}
 use Rattle.reply.specs.Told.{listed_of}
-use Rattle.reply.proofs.Telling.{listed_start, listed-first, listed_next, listed_end}
+use Rattle.reply.proofs.Telling.{listed_start, listed_first, listed_next, listed_end}
 use borrow.Author.Rules.{rules}
 use Rattle.reply.proofs.told.put_listed.Statement.{statement}
 use Rattle.reply.proofs.told.put_listed.Tie as tie
@@ -49,7 +49,7 @@ loop-again c =
     let q = value.before.pick.ensures in
     ⊎_elim (λ w. listed_next _ _ _ f m l.n _ turn.loop-test.true q l.invariant w.0.taken w.2.ensures w.5 w.6
     value.put-signed.ensures)
-    (λ w. listed-first _ _ _ f m l.n _ turn.loop-test.true q l.invariant w.0.left w.1 w.2 value.put-signed.ensures)
+    (λ w. listed_first _ _ _ f m l.n _ turn.loop-test.true q l.invariant w.0.left w.1 w.2 value.put-signed.ensures)
     joined.if1.branch
 
 same_length : tie.Need-same-length invariant-loop decreases-loop

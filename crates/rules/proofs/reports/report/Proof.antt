@@ -21,7 +21,7 @@ returns c =
     let a = place.before.args in
     let p = place.place.ensures in
     told a.d a.axis a.r (simp p at (sym report-refusal.report-refusal.ensures ∙ if1.if1.true))
-    (simp p at c.reported-at.ensures)
+    (simp p at c.reported_at.ensures)
 
 returns-2 : tie.Need-returns-2
 unfolding report
