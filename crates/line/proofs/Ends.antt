@@ -9,7 +9,7 @@ use native.Mathlib.Omega.{arith}
 use lib.Dec.{eqb}
 use lib.ListN.{length, get_or, take, drop, length-append, take-append-drop, drop_of_length-le}
 use lib.Seq.{take-append_seam, drop-cons, get_or-append-add}
-use borrow.Author.Tests.{ne_eqb, not_false}
+use borrow.Author.Tests.{ne_eqb, not-false}
 use Rattle.laws.specs.Lists.{all}
 use Rattle.laws.proofs.Bools.{clash, or_left, or_right}
 use Rattle.laws.proofs.Passes.{Passes, pass_head, passes_all, all_passes}
@@ -124,4 +124,4 @@ pub split : (t : List ℕ) → not_line_lem (47 ∷ t) ≡ false → Split t
 unfolding not_line_lem
 split t e =
     split_size t (length t - 1) _ _ refl refl refl (or_left (eqb (footer_size (47 ∷ t)) 0) _ e)
-    (not_false (all printable (body (47 ∷ t))) (or_right (eqb (footer_size (47 ∷ t)) 0) _ e))
+    (not-false (all printable (body (47 ∷ t))) (or_right (eqb (footer_size (47 ∷ t)) 0) _ e))

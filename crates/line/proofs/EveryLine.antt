@@ -104,6 +104,7 @@ either P false p q = q
 -- no address word is wrong, as the table of refusals says it and as the spelling rules do
 none_bad : (ws : List Placed) → bad_address ws ≡ false → BadAddress (bytes_of ws) → ⊥
 unfolding bad_address
+none_bad [] e x = elim x [ ]
 none_bad (w ∷ ws) e (bad_address_lem b h) = go (read_address w.bytes) refl (rw (starts b) at e)
   where
     go : (u : UnsignedRead) → read_address w.bytes ≡ u → not (is_address u) ≡ false → ⊥

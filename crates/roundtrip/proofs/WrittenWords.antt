@@ -5,7 +5,7 @@ use mathlib.Core.Logic.{⊎_elim}
 use mathlib.Core.Bool.{Bool, true, false, cond, not, ◌&&◌, ◌||◌}
 use mathlib.Core.List.{List, [], ◌∷◌}
 use Prim.Native.Nat.{ℕ}
-use borrow.Author.Tests.{not_false}
+use borrow.Author.Tests.{not-false}
 use Rattle.laws.specs.Lists.{fold, all}
 use Rattle.laws.proofs.Order.{eq_or_ne}
 use Rattle.laws.proofs.Bools.{and_left, and_right, or_left, or_right}
@@ -53,7 +53,7 @@ module _ (c : Command) (message : List ℕ) (held : Held c) (fit : unfit c messa
   command_words_lem = go (carries_words c) refl
     where
       plain : carries_words c ≡ true → all data_byte message ≡ true
-      plain e = not_false (all data_byte message)
+      plain e = not-false (all data_byte message)
           (rw e at (or_right (demands c).barred (carries_words c && not (all data_byte message)) fit))
 
       go : (t : Bool) → carries_words c ≡ t → Each Word (command_words c (cut message))
