@@ -65,9 +65,10 @@ def main():
         to = snake(name)
         if to == name:
             continue
-        if to in names or to in new.values():
+        # a definition keeps the plain name: a lemma or a constructor of another module may have it too
+        if name not in defined and (to in names or to in new.values()):
             to += "_lem"
-        if to in names or to in new.values():
+        if name not in defined and (to in names or to in new.values()):
             sys.exit(f"respell: two names would be {to}")
         new[name] = to
     if len(sys.argv) > 1:

@@ -3,7 +3,7 @@
 #![tactic(auto)]
 
 ghost use Rattle.std.specs.Prelude.{◌≡◌, cond, ◌∷◌, [], ◌++◌, ◌%◌, ◌+◌, ◌≤◌, length};
-ghost use Rattle.numbers.specs.Decimal.{digits, decimal, two_digits_lem, hex_digit, hex_pair};
+ghost use Rattle.numbers.specs.Decimal.{digits, decimal, two_digits, hex_digit, hex_pair};
 ghost use Rattle.buffer.specs.Wrote.{Wrote};
 
 use units::Number;
@@ -115,7 +115,7 @@ pub fn put_numbered(buf: &mut [u8], at: usize, t: &[u8], n: Number) -> usize
 
 // The last two digits of n.
 pub fn put_two(buf: &mut [u8], at: usize, n: u64) -> usize
-    ensures { Wrote buf.old at (two_digits_lem n) buf.new result }
+    ensures { Wrote buf.old at (two_digits n) buf.new result }
 {
     let next = put_byte(buf, at, 48 + (n / 10 % 10) as u8);
     put_byte(buf, next, 48 + (n % 10) as u8)

@@ -28,12 +28,12 @@ use Rattle.rules.proofs.GoodStays.{good_count}
 use Rattle.reply.specs.Data.{refusal_name}
 use Rattle.reply.specs.Help.{longest_answer, info_lines}
 use Rattle.reply.specs.Reply.{longest_reply, reply, joined as joined-lines}
-use Rattle.reply.specs.Told.{carried, told_text_lem, informs}
+use Rattle.reply.specs.Told.{carried, told_text, informs}
 use Rattle.reply.proofs.Lengths.{refusal_length}
 use Rattle.reply.specs.declared.told.Told.{Told}
 use Rattle.view.specs.Data.{text_of, data_of, told_of}
 use Rattle.view.specs.View.{head_of}
-use Rattle.view.proofs.Telling.{told_text, told_informs}
+use Rattle.view.proofs.Telling.{told_text_lem, told_informs}
 use Rattle.carriage.specs.declared.Heading.{Heading}
 use Rattle.carriage.specs.declared.Ruling.{Ruling}
 use Rattle.carriage.specs.declared.Ruling.TheVariants.{Silent, Rejected, Accepted}
@@ -97,13 +97,13 @@ module _ (d : Device) (l : List ℕ) (r : LineRead) (b : List ℕ) where
 
     module _ {f : Form} (p : f ≡ form_of c) {stop : ℕ} (u : stop ≡ end) {t : Told}
         (q : (t ≡ told_of d k f y.reply from stop) × (length d.axes ≡ 4)) where
-      told-data : told_text_lem l t ≡ data_of d k (carried_by c (drop from (take end l))) c
+      told-data : told_text l t ≡ data_of d k (carried_by c (drop from (take end l))) c
       unfolding carried
       told-data =
-          ap (told_text_lem l) (q.0 ∙ ap (told_of d k f y.reply from) u) ∙ told_text d k q.1 l f y.reply from end
+          ap (told_text l) (q.0 ∙ ap (told_of d k f y.reply from) u) ∙ told_text_lem d k q.1 l f y.reply from end
           ∙ rw (p, w.fair.demanded) (carried_same d k (drop from (take end l)) c)
 
-      pub told_fits : length (told_text_lem l t) ≤ 74
+      pub told_fits : length (told_text l t) ≤ 74
       told_fits = rw told-data (sound_fits d l b k from end c y w.fair)
 
       told-informing : informs t ≡ Table.informs c
@@ -121,7 +121,7 @@ module _ (d : Device) (l : List ℕ) (r : LineRead) (b : List ℕ) where
         abbrev lines : List ℕ
         lines = cond (informs t) (joined-lines (info_lines h.head.address h.sum)) []
 
-        pub acceptance_gives : {x : ℕ} {g : List ℕ} → Wrote b 0 (reply h.head h.sum (told_text_lem l t) ++ lines) g x
+        pub acceptance_gives : {x : ℕ} {g : List ℕ} → Wrote b 0 (reply h.head h.sum (told_text l t) ++ lines) g x
             → Gives (respond d l r b) (record { number = 0; length = x; next = e }) g
         unfolding accepted reply_of head_of
         acceptance_gives {x} {g} v =

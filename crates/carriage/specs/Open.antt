@@ -34,7 +34,7 @@ open_laws = 0
 
 unfoldable open_number : ℕ
 unfolding NumberChecksum.sum_text NumberDecimal.last_digit NumberDecimal.digits_within NumberDecimal.digits NumberDecimal.decimal
-    NumberDecimal.two_digits_lem NumberDecimal.hex_digit NumberDecimal.hex_pair
+    NumberDecimal.two_digits NumberDecimal.hex_digit NumberDecimal.hex_pair
 open_number = 0
 
 unfoldable open_flags : ℕ
@@ -60,7 +60,7 @@ unfolding StateEach.stretch_of StateGood.good StateGood.may_be_fresh StateGood.a
 open_state = 0
 
 unfoldable open_device : ℕ
-unfolding DeviceEffects.next DeviceEffects.obey DeviceRefusals.bad_axis DeviceRefusals.device_only DeviceRefusals.no_access_lem
+unfolding DeviceEffects.next DeviceEffects.obey DeviceRefusals.bad_axis DeviceRefusals.device_only DeviceRefusals.no_access
     DeviceRefusals.parked DeviceRefusals.status_busy DeviceRefusals.bad_data DeviceRefusals.refusal
 open_device = 0
 

@@ -6,7 +6,7 @@ ghost use Rattle.std.specs.Prelude.{◌≡◌, cond, [], ◌++◌, ◌+◌, ◌�
 ghost use Rattle.buffer.specs.Wrote.{Wrote};
 ghost use Rattle.reply.specs.Help.{help_text, longest_answer, longest_infos, info_lines};
 ghost use Rattle.reply.specs.Reply.{longest_reply, joined, reply as replyText, alert as alertText, info as infoText};
-ghost use Rattle.reply.specs.Told.{told_text_lem, informs};
+ghost use Rattle.reply.specs.Told.{told_text, informs};
 ghost use Rattle.carriage.specs.Report.{alert_wanted, report as report_of};
 ghost use Rattle.carriage.specs.Step.{Gives, concerns as concernsOf, words_room, room_for, step as step_of, refused_at};
 ghost use Rattle.carriage.specs.ReadOnce.{end_within, overheard, respond_to};
@@ -185,8 +185,8 @@ pub fn rule(d: Device, r: LineRead) -> Ruling
 
 // A reply: what it tells may stand in the line.
 fn put_reply(h: Heading, x: Told, line: &[u8], reply: &mut [u8]) -> usize
-    requires { (longest_reply ≤ length reply.old) × (h.head.axis < 10) × (length (told_text_lem line.now x) ≤ 74) }
-    ensures { Wrote reply.old 0 (replyText h.head h.sum (told_text_lem line.now x)) reply.new result }
+    requires { (longest_reply ≤ length reply.old) × (h.head.axis < 10) × (length (told_text line.now x) ≤ 74) }
+    ensures { Wrote reply.old 0 (replyText h.head h.sum (told_text line.now x)) reply.new result }
 {
     let data = put_head(reply, 0, h.head);
     let end = put_told(reply, data, x, line);
@@ -219,8 +219,8 @@ fn put_infos(buf: &mut [u8], at: usize, address: u64, sum: bool) -> usize
 
 // The reply to an accepted command, and the info lines behind it.
 fn put_answer(h: Heading, x: Told, line: &[u8], reply: &mut [u8]) -> usize
-    requires { (cond (informs x) longest_answer longest_reply ≤ length reply.old) × (h.head.axis < 10) × (length (told_text_lem line.now x) ≤ 74) }
-    ensures { Wrote reply.old 0 (replyText h.head h.sum (told_text_lem line.now x) ++ cond (informs x) (joined (info_lines h.head.address h.sum)) []) reply.new result }
+    requires { (cond (informs x) longest_answer longest_reply ≤ length reply.old) × (h.head.axis < 10) × (length (told_text line.now x) ≤ 74) }
+    ensures { Wrote reply.old 0 (replyText h.head h.sum (told_text line.now x) ++ cond (informs x) (joined (info_lines h.head.address h.sum)) []) reply.new result }
 {
     let end = put_reply(h, x, line, reply);
     if x.informs() {

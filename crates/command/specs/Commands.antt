@@ -78,8 +78,8 @@ unparked = true
 abbrev anytime : Bool
 anytime = false
 
-abbrev at_rest_lem : Bool
-at_rest_lem = true
+abbrev at_rest : Bool
+at_rest = true
 
 abbrev even_moving : Bool
 even_moving = false
@@ -116,7 +116,7 @@ table =
     ∷ row (w "warnings" ∷ []) [] Apart anytime even_moving shows Active (axes Axis.Warnings)
     ∷ row (w "warnings" ∷ []) (w "clear" ∷ []) Apart anytime even_moving changes Active (axes Axis.WarningsClear)
     ∷ row (w "tools" ∷ w "parking" ∷ []) (w "state" ∷ []) Apart anytime even_moving shows Parked (device Device.ParkingState)
-    ∷ row (w "tools" ∷ w "parking" ∷ []) (w "park" ∷ []) Apart anytime at_rest_lem changes Nought (device Device.Park)
+    ∷ row (w "tools" ∷ w "parking" ∷ []) (w "park" ∷ []) Apart anytime at_rest changes Nought (device Device.Park)
     ∷ row (w "tools" ∷ w "parking" ∷ []) (w "unpark" ∷ []) Apart anytime even_moving changes Nought (device Device.Unpark)
     ∷ row (w "tools" ∷ w "echo" ∷ []) [] Apart anytime even_moving shows Words (device Device.Echo)
     ∷ row (w "help" ∷ []) (w "commands" ∷ []) Apart anytime even_moving shows Info (device Device.Help)

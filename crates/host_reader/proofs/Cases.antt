@@ -12,7 +12,7 @@ use Rattle.numbers.specs.Checksum.{total, checksum}
 use Rattle.numbers.specs.Reading.{value_of, read_pair}
 use Rattle.words.specs.Find.{index}
 use Rattle.flags.specs.Flags.{warning_names}
-use Rattle.host_reader.specs.Reading.{field, stands, two_of, marks, verdicts, statuses, warnings, front_in, state_in, data_byte, content_end, text_at, reply_in, alert_in, info_in, said_in, right_end_lem, ended, message_in, is_message, read_message}
+use Rattle.host_reader.specs.Reading.{field, stands, two_of, marks, verdicts, statuses, warnings, front_in, state_in, data_byte, content_end, text_at, reply_in, alert_in, info_in, said_in, right_end, ended, message_in, is_message, read_message}
 use Rattle.host_reader.specs.declared.Said.{Said}
 use Rattle.host_reader.specs.declared.Said.TheVariants.{Reply, Alert, Info}
 use Rattle.host_reader.specs.declared.MessageRead.{MessageRead}
@@ -160,5 +160,5 @@ rows =
 
 pub message_cases : map (λ r. read_message r.line) rows ≡ map (λ r. r.answer) rows
 unfolding rows read_message is_message message_in front_in said_in reply_in alert_in info_in state_in text_at content_end ended stands field marks
-    two_of verdicts statuses warnings warning_names data_byte right_end_lem span index value_of read_pair total checksum text same
+    two_of verdicts statuses warnings warning_names data_byte right_end span index value_of read_pair total checksum text same
 message_cases = refl

@@ -12,7 +12,7 @@ use borrow.Author.Tests.{le-ltb}
 use Rattle.laws.specs.Text.{text, spaced}
 use Rattle.laws.proofs.Spaced.{trail}
 use Rattle.numbers.specs.Checksum.{checksum}
-use Rattle.numbers.specs.Decimal.{last_digit, digits, two_digits_lem}
+use Rattle.numbers.specs.Decimal.{last_digit, digits, two_digits}
 use Rattle.numbers.specs.Spelling.{Digit}
 use Rattle.numbers.proofs.Decimal.{digits_one, pair_spelled}
 use Rattle.flags.specs.Flags.{warning_names, bits, first}
@@ -66,11 +66,11 @@ heard_info address axis t = record { address = address; axis = axis; said = Info
 figure : (n : ℕ) → Digit 10 (48 + n % 10) (n % 10)
 figure n = Digit.figure (omega arith) (omega arith) refl
 
-address_spelled : (n : ℕ) → 1 ≤ n → n ≤ 99 → Address (two_digits_lem n) n
-unfolding two_digits_lem
+address_spelled : (n : ℕ) → 1 ≤ n → n ≤ 99 → Address (two_digits n) n
+unfolding two_digits
 address_spelled n some h =
     let e : n / 10 % 10 * 10 + n % 10 ≡ n = omega arith in
-    subst (Address (two_digits_lem n)) e (Address.two (figure (n / 10)) (figure n) (omega arith))
+    subst (Address (two_digits n)) e (Address.two (figure (n / 10)) (figure n) (omega arith))
 
 axis_spelled : (k : ℕ) → k ≤ 9 → Axis (digits k) k
 unfolding last_digit
@@ -160,7 +160,7 @@ module _ (h : Head) (sum : Bool) (some : 1 ≤ h.address) (most : h.address ≤ 
   unfolding reply body
   reply_text words =
       rw (← place_is)
-      (text_stands (text "@") (two_digits_lem h.address) (digits h.axis ∷ verdict h.ok ∷ status h.busy ∷ highest h.warnings ∷ [])
+      (text_stands (text "@") (two_digits h.address) (digits h.axis ∷ verdict h.ok ∷ status h.busy ∷ highest h.warnings ∷ [])
       words (ending sum (body h words)))
 
   pub reply_back : (words : List ℕ) → Data words → length words ≤ most_data_lem sum
@@ -181,7 +181,7 @@ module _ (h : Head) (sum : Bool) (some : 1 ≤ h.address) (most : h.address ≤ 
 
 -- ---- info lines: 88 bytes of text without a checksum, 85 with one
 module _ (address axis : ℕ) (sum : Bool) (some : 1 ≤ address) (most : address ≤ 99) (one_digit : axis ≤ 9) where
-  text_place_lem : length (text "#" ++ spaced (two_digits_lem address ∷ digits axis ∷ [] ∷ [])) ≡ text_place
+  text_place_lem : length (text "#" ++ spaced (two_digits address ∷ digits axis ∷ [] ∷ [])) ≡ text_place
   text_place_lem = before hash (address_spelled address some most) (axis_spelled axis one_digit) ([] ∷ []) ∙ info_size []
 
   pub info_spelled : {t : List ℕ} → InfoText t → length t ≤ most_text_lem sum
@@ -202,7 +202,7 @@ module _ (address axis : ℕ) (sum : Bool) (some : 1 ≤ address) (most : addres
   info_text [] = refl
   info_text (c ∷ t) =
       rw (← text_place_lem)
-      (text_stands (text "#") (two_digits_lem address) (digits axis ∷ []) (c ∷ t) (ending sum (info_body address axis (c ∷ t))))
+      (text_stands (text "#") (two_digits address) (digits axis ∷ []) (c ∷ t) (ending sum (info_body address axis (c ∷ t))))
 
   pub info_back : {t : List ℕ} → InfoText t → length t ≤ most_text_lem sum
       → read_message (info address axis sum t) ≡ Read.Message (heard_info address axis t)

@@ -26,7 +26,7 @@ use Rattle.words.specs.Spelling.{WordByte}
 use Rattle.words.proofs.Index.{index_is}
 use Rattle.flags.specs.Flags.{warning_names}
 use Rattle.host_reader.specs.Spelling.{Verdict, accepted, rejected, Status, idle, busy, Warning, fd, fq, fs, ft, fb, fp, fe, wr, Bytes, gap, byte, Data, begun, End, bare, summed}
-use Rattle.host_reader.specs.Reading.{field, stands, verdicts, statuses, warnings, data_byte, right_end_lem}
+use Rattle.host_reader.specs.Reading.{field, stands, verdicts, statuses, warnings, data_byte, right_end}
 
 -- ---- the words of the three lists
 pub data Two : List ℕ → Type 0 where
@@ -233,12 +233,12 @@ unfolding text data_byte span
 end_span bare = refl
 end_span (summed h) = refl
 
-sum_read : {p : List ℕ} {n : ℕ} → HexPair p n → (s : List ℕ) → n ≡ checksum s → right_end_lem s (text ":" ++ p ++ text "\r\n") ≡ true
-unfolding right_end_lem stands field text same
+sum_read : {p : List ℕ} {n : ℕ} → HexPair p n → (s : List ℕ) → n ≡ checksum s → right_end s (text ":" ++ p ++ text "\r\n") ≡ true
+unfolding right_end stands field text same
 sum_read (pair {h} {l} x y) s e = rw (pair_read (pair x y), eq-eqb _ _ e)
 
-pub end_read : {s e : List ℕ} → End s e → right_end_lem s e ≡ true
-unfolding right_end_lem text same
+pub end_read : {s e : List ℕ} → End s e → right_end s e ≡ true
+unfolding right_end text same
 end_read bare = refl
 end_read {s} (summed h) = sum_read h s refl
 
@@ -258,8 +258,8 @@ summed_of s (a ∷ b ∷ c ∷ r) t =
     put : a ≡ 58 → r ≡ text "\r\n" → HexPair (b ∷ c ∷ []) (checksum s) → End s (a ∷ b ∷ c ∷ r)
     put p q h = rw (p, q) (summed h)
 
-pub end_of : (s e : List ℕ) → right_end_lem s e ≡ true → End s e
-unfolding right_end_lem
+pub end_of : (s e : List ℕ) → right_end s e ≡ true → End s e
+unfolding right_end
 end_of s e t = go (same e (text "\r\n")) refl t
   where
     go : (b : Bool) → same e (text "\r\n") ≡ b → (b ||

@@ -18,7 +18,7 @@ use Rattle.numbers.specs.Spelling.{Digit}
 use Rattle.numbers.proofs.Value.{digit_value, digit_below}
 use Rattle.words.specs.Find.{index}
 use Rattle.host_reader.specs.Spelling.{Verdict, Status, Warning, Bytes, Data, begun, End, Says}
-use Rattle.host_reader.specs.Reading.{field, stands, two_of, marks, verdicts, statuses, warnings, front_in, state_in, data_byte, content_end, text_at, reply_in, alert_in, info_in, said_in, right_end_lem, ended, message_in, read_message}
+use Rattle.host_reader.specs.Reading.{field, stands, two_of, marks, verdicts, statuses, warnings, front_in, state_in, data_byte, content_end, text_at, reply_in, alert_in, info_in, said_in, right_end, ended, message_in, read_message}
 use Rattle.host_reader.specs.declared.Said.{Said}
 use Rattle.host_reader.specs.declared.Said.TheVariants.{Reply, Alert, Info}
 use Rattle.host_reader.specs.declared.MessageRead.TheVariants as Read
@@ -237,11 +237,11 @@ module _ {mark : List ℕ} {c b k t u j : ℕ} {ws : List (List ℕ)} {said : Sa
       go : {mark : List ℕ} → One mark → 5 + span data_byte (drop 5 (line_of mark c b k (trail ws ++ e))) ≡ 5 + length (trail ws)
       go one = ap (λ (n : ℕ). 5 + n) (bytes_span e h.printed (end_span end))
 
-  right_end : ended l (5 + length (trail ws)) ≡ true
+  right_end_lem : ended l (5 + length (trail ws)) ≡ true
   unfolding ended
-  right_end = go h.byte
+  right_end_lem = go h.byte
     where
-      go : {mark : List ℕ} → One mark → right_end_lem (drop 1 (take (5 + length (trail ws)) (line_of mark c b k (trail ws ++ e))))
+      go : {mark : List ℕ} → One mark → right_end (drop 1 (take (5 + length (trail ws)) (line_of mark c b k (trail ws ++ e))))
           (drop (5 + length (trail ws)) (line_of mark c b k (trail ws ++ e))) ≡ true
       go (one {m}) =
           let front = m ∷ c ∷ b ∷ 32 ∷ k ∷ trail ws in
@@ -252,4 +252,4 @@ module _ {mark : List ℕ} {c b k t u j : ℕ} {ws : List (List ℕ)} {said : Sa
   unfolding message_in
   read_whole short =
       let front = front_read (trail ws ++ e) h.byte h.known x y some z in
-      whole l short (rw (front, content, h.is, right_end)) ∙ ap Read.Message (rw (front, content, h.is))
+      whole l short (rw (front, content, h.is, right_end_lem)) ∙ ap Read.Message (rw (front, content, h.is))

@@ -134,13 +134,13 @@ said_in l (suc zero) end = alert_in l end
 said_in l (suc (suc k)) end = info_in l end
 
 -- ---- the end: "checksum optional but right if present (either case)", and CR LF
-unfoldable pub right_end_lem : List ℕ → List ℕ → Bool
-right_end_lem s e =
+unfoldable pub right_end : List ℕ → List ℕ → Bool
+right_end s e =
     same e (text "\r\n") || (stands e 0 (text ":") && same (drop 3 e) (text "\r\n") && says_sum s (read_pair (get_or e 1 0) (get_or e 2 0)))
 
 -- what is summed is all between the mark and the end
 unfoldable pub ended : List ℕ → ℕ → Bool
-ended l end = right_end_lem (drop 1 (take end l)) (drop end l)
+ended l end = right_end (drop 1 (take end l)) (drop end l)
 
 -- ---- the whole
 abbrev pub said_by : List ℕ → SaidRead

@@ -1,7 +1,7 @@
 // The host's reader of messages: which kind it was, what it says, and where its text stands.
 // The rules are in specs/Reading.antt; proofs/Messages.antt shows that just what is spelled is read.
 ghost use Rattle.std.specs.Prelude.{◌≡◌};
-ghost use Rattle.host_reader.specs.Reading.{content_end, right_end_lem, ended, text_at, reply_in, alert_in, info_in, said_in, read_message, number_of, message_refusal};
+ghost use Rattle.host_reader.specs.Reading.{content_end, right_end, ended, text_at, reply_in, alert_in, info_in, said_in, read_message, number_of, message_refusal};
 
 pub use crate::reading::fields::field;
 use crate::reading::fields::{byte_at, read_front, read_state, rest, stands_at};
@@ -30,7 +30,7 @@ fn content_end(line: &[u8]) -> usize
 
 // Is e an end behind s: CR LF, or the checksum of s and CR LF?
 fn right_end(s: &[u8], e: &[u8]) -> bool
-    ensures { result ≡ right_end_lem s.now e.now }
+    ensures { result ≡ right_end s.now e.now }
 {
     let bare = same_bytes(e, b"\r\n");
     let colon = stands_at(e, 0, b":");

@@ -15,7 +15,7 @@ use Rattle.laws.specs.Refusals.{first_of}
 use Rattle.laws.proofs.Answers.{one_answer}
 use Rattle.laws.proofs.Order.{lt_or_le}
 use Rattle.laws.proofs.Spaced.{trail, spaced_trail}
-use Rattle.numbers.specs.Decimal.{digits, two_digits_lem}
+use Rattle.numbers.specs.Decimal.{digits, two_digits}
 use Rattle.words.specs.Cutting.{cut}
 use Rattle.command.specs.declared.Command.{Command}
 use Rattle.command.specs.Commands.{command_words}
@@ -35,7 +35,7 @@ full {b} p q t h w =
       place = w.place ∙ rw same;
     }
 
-pub front_is : (address axis : ℕ) → text "/" ++ two_digits_lem address ++ (space ∷ []) ++ digits axis ≡ front_text address axis
+pub front_is : (address axis : ℕ) → text "/" ++ two_digits address ++ (space ∷ []) ++ digits axis ≡ front_text address axis
 unfolding front_text spaced
 front_is address axis = simp append_assoc
 

@@ -5,7 +5,7 @@ use Rattle.laws.specs.Text.{text, spaced}
 use Rattle.laws.specs.Lists.{all}
 use Rattle.laws.specs.Refusals.{◌when◌, first_of, NOROOM, TOOLONG, BADDATA, ACCEPTED}
 use Rattle.numbers.specs.Checksum.{sum_text}
-use Rattle.numbers.specs.Decimal.{digits, two_digits_lem}
+use Rattle.numbers.specs.Decimal.{digits, two_digits}
 use Rattle.numbers.specs.Spelling.{highest_address}
 use Rattle.words.specs.Cutting.{cut}
 use Rattle.line.specs.Spelling.{longest_line}
@@ -16,11 +16,11 @@ use Rattle.host_writer.specs.declared.Written.{Written}
 
 -- "an echo message (parted at its spaces into words)"
 unfoldable pub line_words : ℕ → ℕ → Command → List ℕ → List (List ℕ)
-line_words address axis c message = two_digits_lem address ∷ digits axis ∷ command_words c (cut message)
+line_words address axis c message = two_digits address ∷ digits axis ∷ command_words c (cut message)
 
 -- what stands before the command's words
 unfoldable pub front_text : ℕ → ℕ → List ℕ
-front_text address axis = text "/" ++ spaced (two_digits_lem address ∷ digits axis ∷ [])
+front_text address axis = text "/" ++ spaced (two_digits address ∷ digits axis ∷ [])
 
 -- the checksum of the content s, if asked, and LF
 unfoldable pub line_end : Bool → List ℕ → List ℕ

@@ -15,7 +15,7 @@ use Rattle.laws.proofs.Bools.{and_false}
 use Rattle.laws.proofs.Lists.{rest}
 use Rattle.numbers.specs.declared.NumberRead.{NumberRead}
 use Rattle.numbers.specs.declared.NumberRead.TheVariants.{Value, Refused}
-use Rattle.numbers.specs.Reading.{read_number_lem}
+use Rattle.numbers.specs.Reading.{read_number}
 use Rattle.words.specs.declared.Word.{Word}
 use Rattle.words.specs.Cutting.{cut, word_at, head_word, tail_words}
 use Rattle.words.proofs.Cut.{cut_none, word_head, word_tail}
@@ -61,8 +61,8 @@ module _ (b : List ℕ) {v : Word} {ws : List (List ℕ)} (e : cut b ≡ ws) (q 
 
 -- ---- three numbers
 -- a word that is missing is no number
-no_last : (x y : NumberRead) → numbers_of x y (read_number_lem []) ≡ Misspelt
-unfolding read_number_lem
+no_last : (x y : NumberRead) → numbers_of x y (read_number []) ≡ Misspelt
+unfolding read_number
 no_last (Refused p) y = refl
 no_last (Value a) (Refused p) = refl
 no_last (Value a) (Value k) = refl
@@ -83,23 +83,23 @@ module _ (ws t₁ t₂ t₃ : List (List ℕ)) (e₁ : t₁ ≡ tail_words ws) (
       go (a ∷ k ∷ n ∷ []) h = absurd (omega (arith, ap length h))
       go (a ∷ k ∷ n ∷ x ∷ ws) h = refl
 
-  pub just_three : {x y z : NumberRead} {r : ReportRead} → t₃ ≡ [] → x ≡ read_number_lem (head_word ws) → y ≡ read_number_lem (head_word t₁)
-      → z ≡ read_number_lem (head_word t₂) → r ≡ numbers_of x y z → r ≡ three_of ws
+  pub just_three : {x y z : NumberRead} {r : ReportRead} → t₃ ≡ [] → x ≡ read_number (head_word ws) → y ≡ read_number (head_word t₁)
+      → z ≡ read_number (head_word t₂) → r ≡ numbers_of x y z → r ≡ three_of ws
   unfolding tail_words head_word
   just_three none x y z r = r ∙ rw (x, y, z, e₂, e₁) (go ws (sym third ∙ none))
     where
       go : (ws : List (List ℕ)) → tail_words (tail_words (tail_words ws)) ≡ []
-          → numbers_of (read_number_lem (head_word ws)) (read_number_lem (head_word (tail_words ws))) (read_number_lem (head_word (tail_words (tail_words ws))))
+          → numbers_of (read_number (head_word ws)) (read_number (head_word (tail_words ws))) (read_number (head_word (tail_words (tail_words ws))))
           ≡ three_of ws
-      go [] h = no_last (read_number_lem []) (read_number_lem [])
-      go (a ∷ []) h = no_last (read_number_lem a) (read_number_lem [])
-      go (a ∷ k ∷ []) h = no_last (read_number_lem a) (read_number_lem k)
+      go [] h = no_last (read_number []) (read_number [])
+      go (a ∷ []) h = no_last (read_number a) (read_number [])
+      go (a ∷ k ∷ []) h = no_last (read_number a) (read_number k)
       go (a ∷ k ∷ n ∷ []) h = refl
       go (a ∷ k ∷ n ∷ x ∷ ws) h = absurd (omega (arith, ap length h))
 
 -- one number before three
-place_and_three : (ws : List (List ℕ)) → at_place (read_number_lem (head_word ws)) (three_of (tail_words ws)) ≡ placed_of ws
-unfolding head_word tail_words read_number_lem
+place_and_three : (ws : List (List ℕ)) → at_place (read_number (head_word ws)) (three_of (tail_words ws)) ≡ placed_of ws
+unfolding head_word tail_words read_number
 place_and_three [] = refl
 place_and_three (d ∷ ws) = refl
 
@@ -109,7 +109,7 @@ number_if right = cond (not right) BADREPORT ACCEPTED
 
 -- the words behind `R`: so many, and all of them numbers
 abbrev so_many : ℕ → List (List ℕ) → Bool
-so_many many ws = eqb (length ws) many && all (λ w. is_number (read_number_lem w)) ws
+so_many many ws = eqb (length ws) many && all (λ w. is_number (read_number w)) ws
 
 three_numbers : (x y z : NumberRead) → number_of (numbers_of x y z) ≡ number_if (is_number x && (is_number y && (is_number z && true)))
 three_numbers (Refused p) y z = refl
@@ -122,7 +122,7 @@ unfolding fold
 just_3 [] = refl
 just_3 (a ∷ []) = refl
 just_3 (a ∷ k ∷ []) = refl
-just_3 (a ∷ k ∷ n ∷ []) = three_numbers (read_number_lem a) (read_number_lem k) (read_number_lem n)
+just_3 (a ∷ k ∷ n ∷ []) = three_numbers (read_number a) (read_number k) (read_number n)
 just_3 (a ∷ k ∷ n ∷ x ∷ ws) = rw (ne_eqb (length (a ∷ k ∷ n ∷ x ∷ ws)) 3 (λ e. omega arith))
 
 one_more : (x : NumberRead) (r : ReportRead) (l o : Bool) → number_of r ≡ number_if (l && o)
@@ -134,7 +134,7 @@ one_more (Value d) (Report a k n) l o e = e
 just_4 : (ws : List (List ℕ)) → placed_number (placed_of ws) ≡ number_if (so_many 4 ws)
 unfolding fold
 just_4 [] = refl
-just_4 (d ∷ ws) = rw (eqb-suc-suc (length ws) 3) (one_more (read_number_lem d) (three_of ws) (eqb (length ws) 3) _ (just_3 ws))
+just_4 (d ∷ ws) = rw (eqb-suc-suc (length ws) 3) (one_more (read_number d) (three_of ws) (eqb (length ws) 3) _ (just_3 ws))
 
 -- whatever is read of the words behind `R`, where just so many numbers are accepted, and no words are not
 module _ {X : Type 0} (read : List (List ℕ) → X) (number : X → ℕ) (many : ℕ) (none : number (read []) ≡ BADREPORT)
@@ -144,7 +144,7 @@ module _ {X : Type 0} (read : List (List ℕ) → X) (number : X → ℕ) (many 
   words_number_lem [] = none ∙ rw (eqb-zero-suc many)
   words_number_lem (r ∷ ws) = rw (eqb-suc-suc (length ws) many) (go (same r (text "R")))
     where
-      go : (t : Bool) → number (read (cond t ws [])) ≡ number_if (eqb (length ws) many && (t && all (λ w. is_number (read_number_lem w)) ws))
+      go : (t : Bool) → number (read (cond t ws [])) ≡ number_if (eqb (length ws) many && (t && all (λ w. is_number (read_number w)) ws))
       go true = just ws
       go false = none ∙ rw (and_false (eqb (length ws) many))
 
@@ -169,7 +169,7 @@ module _ (s : List ℕ) {ws : List (List ℕ)} (e : ws ≡ behind_r (framed_word
       let read = r ∙ ap three_of e in
       (read, ap number_of read ∙ line_number three_of number_of 3 refl just_3 s)
 
-  pub placed_told : {t : List (List ℕ)} {x : NumberRead} {y : ReportRead} {r : PlacedRead} → x ≡ read_number_lem (head_word ws)
+  pub placed_told : {t : List (List ℕ)} {x : NumberRead} {y : ReportRead} {r : PlacedRead} → x ≡ read_number (head_word ws)
       → t ≡ tail_words ws → y ≡ three_of t → r ≡ at_place x y → (r ≡ read_placed s) × (placed_number r ≡ placed_refusal s)
   unfolding read_placed placed_refusal
   placed_told x t y r =

@@ -9,6 +9,6 @@ parts [] = []
 parts (c ∷ s) = cond (eqb c LF) ((c ∷ []) ∷ parts s) (grow c (parts s))
 
 -- how many bytes the first part has
-unfoldable pub first_part_lem : List ℕ → ℕ
-first_part_lem [] = 0
-first_part_lem (c ∷ s) = cond (eqb c LF) 1 (suc (first_part_lem s))
+unfoldable pub first_part : List ℕ → ℕ
+first_part [] = 0
+first_part (c ∷ s) = cond (eqb c LF) 1 (suc (first_part s))

@@ -6,7 +6,7 @@ use Rattle.laws.specs.Refusals.{◌when◌, first_of, ACCEPTED, BADREPORT}
 use Rattle.laws.specs.Text.{text, same}
 use Rattle.numbers.specs.declared.NumberRead.{NumberRead}
 use Rattle.numbers.specs.declared.NumberRead.TheVariants.{Value, Refused}
-use Rattle.numbers.specs.Reading.{read_number_lem}
+use Rattle.numbers.specs.Reading.{read_number}
 use Rattle.words.specs.Cutting.{cut, head_word, tail_words}
 use Rattle.line.specs.Reading.{printable, is_footer}
 use Rattle.line.specs.Spelling.{longest_line}
@@ -38,7 +38,7 @@ abbrev pub three_of : List (List ℕ) → ReportRead
 three_of [] = Misspelt
 three_of (a ∷ []) = Misspelt
 three_of (a ∷ k ∷ []) = Misspelt
-three_of (a ∷ k ∷ n ∷ []) = numbers_of (read_number_lem a) (read_number_lem k) (read_number_lem n)
+three_of (a ∷ k ∷ n ∷ []) = numbers_of (read_number a) (read_number k) (read_number n)
 three_of (a ∷ k ∷ n ∷ x ∷ ws) = Misspelt
 
 unfoldable pub read_report : List ℕ → ReportRead
@@ -53,7 +53,7 @@ at_place (Refused p) r = Placed.Misspelt
 -- `device axis kind p`: one word, and such three
 abbrev pub placed_of : List (List ℕ) → PlacedRead
 placed_of [] = Placed.Misspelt
-placed_of (d ∷ ws) = at_place (read_number_lem d) (three_of ws)
+placed_of (d ∷ ws) = at_place (read_number d) (three_of ws)
 
 unfoldable pub read_placed : List ℕ → PlacedRead
 read_placed s = placed_of (behind_r (framed_words s))
@@ -73,7 +73,7 @@ is_number (Value n) = true
 is_number (Refused p) = false
 
 unfoldable pub spelled_so : ℕ → List (List ℕ) → Bool
-spelled_so many ws = eqb (length ws) many && (same (head_word ws) (text "R") && all (λ w. is_number (read_number_lem w)) (tail_words ws))
+spelled_so many ws = eqb (length ws) many && (same (head_word ws) (text "R") && all (λ w. is_number (read_number w)) (tail_words ws))
 
 -- "22 if misspelt, over 80 bytes or without a footer"
 unfoldable pub refusal_for : ℕ → List ℕ → ℕ

@@ -2,7 +2,7 @@
 // specs/Parts.antt says how an input is parted, and specs/Prints.antt what is printed.
 ghost use Rattle.std.specs.Prelude.{◌≡◌, ◌+◌, drop};
 ghost use Rattle.buffer.specs.Wrote.{Wrote};
-ghost use Rattle.input.specs.Parts.{first_part_lem};
+ghost use Rattle.input.specs.Parts.{first_part};
 ghost use Rattle.input.specs.Prints.{is_report, told, reported, answered, caret};
 
 use buffer::{put_byte, put_number, put_text};
@@ -11,7 +11,7 @@ use units::lesser;
 
 // The place behind the first LF from `at` on, or the end.
 pub fn part_end(s: &[u8], at: usize) -> usize
-    ensures { result ≡ at + first_part_lem (drop at s.now) }
+    ensures { result ≡ at + first_part (drop at s.now) }
 {
     let mut i = at;
     while i < s.len() {

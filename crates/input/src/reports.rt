@@ -1,7 +1,7 @@
 // Reads the line of a motor report, with spaces and numbers as in a command line: `R axis kind p`, or `R device axis kind p` for a chain.
 // specs/ReportLines.antt says which lines are misspelt.
 ghost use Rattle.std.specs.Prelude.{◌≡◌, drop};
-ghost use Rattle.numbers.specs.Reading.{read_number_lem};
+ghost use Rattle.numbers.specs.Reading.{read_number};
 ghost use Rattle.words.specs.Cutting.{cut, head_word, tail_words};
 ghost use Rattle.input.specs.ReportLines.{framed_words, behind_r, numbers_of, three_of, read_report, at_place, read_placed};
 ghost use Rattle.input.specs.ReportLines.{number_of, placed_number, line_refusal, placed_refusal};
@@ -60,7 +60,7 @@ struct NumberAt {
 
 // The first word from at on as a number: the words from behind it on are the others.
 fn number_at(s: &[u8], at: usize) -> NumberAt
-    ensures number { result.number ≡ read_number_lem (head_word (cut (drop at s.now))) }
+    ensures number { result.number ≡ read_number (head_word (cut (drop at s.now))) }
     ensures others { cut (drop result.end s.now) ≡ tail_words (cut (drop at s.now)) }
 {
     let Word { start, end } = words::word_at(s, at);

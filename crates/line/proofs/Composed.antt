@@ -23,10 +23,10 @@ use Rattle.words.specs.Spelling.{Content}
 use Rattle.words.specs.Cutting.{cut}
 use Rattle.words.proofs.Content.{Plain, done, space, byte, content_cut, cut_content, content_plain}
 use Rattle.line.specs.Spelling.{End, Footer, Checksum}
-use Rattle.line.specs.Reading.{printable, no_colon_lem, is_end, is_footer, checked, parted, after_slash, frame_of}
+use Rattle.line.specs.Reading.{printable, no_colon, is_end, is_footer, checked, parted, after_slash, frame_of}
 use Rattle.line.specs.declared.Frame.{Frame}
 use Rattle.line.specs.declared.Frame.TheVariants as Frame
-use Rattle.line.proofs.Frames.{low, high, between, colon_not, other_yes, tail_yes, tail_not, too_long, no_slash, slash_first, parted_fits}
+use Rattle.line.proofs.Frames.{low, high, between, colon_not, other_yes, tail_yes, tail_not, too_long_lem, no_slash, slash_first, parted_fits}
 
 -- ---- contents
 plain_printable : {b : List ℕ} → Plain b → Passes printable b
@@ -34,23 +34,23 @@ plain_printable done = span_none printable
 plain_printable (space {s} k) = pass_cons printable 32 s (between 32 (omega arith) (omega arith)) (plain_printable k)
 plain_printable (byte {c} {s} h k) = pass_cons printable c s (between c (omega (arith, h.low)) h.high) (plain_printable k)
 
-plain_no_colon : {b : List ℕ} → Plain b → Passes no_colon_lem b
-plain_no_colon done = span_none no_colon_lem
-plain_no_colon (space {s} k) = pass_cons no_colon_lem 32 s (other_yes 32 (λ (z : ◌≡◌ {A = ℕ} 32 58). omega arith)) (plain_no_colon k)
-plain_no_colon (byte {c} {s} h k) = pass_cons no_colon_lem c s (other_yes c h.no_colon) (plain_no_colon k)
+plain_no_colon : {b : List ℕ} → Plain b → Passes no_colon b
+plain_no_colon done = span_none no_colon
+plain_no_colon (space {s} k) = pass_cons no_colon 32 s (other_yes 32 (λ (z : ◌≡◌ {A = ℕ} 32 58). omega arith)) (plain_no_colon k)
+plain_no_colon (byte {c} {s} h k) = pass_cons no_colon c s (other_yes c h.no_colon) (plain_no_colon k)
 
 printable_is : (c : ℕ) → printable c ≡ true → (32 ≤ c) × (c ≤ 126)
 printable_is c e =
     ⊎_elim (λ h. clash e (low c h)) (λ h. ⊎_elim (λ k. clash e (high c k)) (λ k. (h, k)) (lt_or_le 126 c)) (lt_or_le c 32)
 
-plain_of : (b : List ℕ) → Passes printable b → Passes no_colon_lem b → Plain b
+plain_of : (b : List ℕ) → Passes printable b → Passes no_colon b → Plain b
 plain_of [] k j = done
 plain_of (c ∷ b) k j =
     let r = pass_head printable c b (printable c) refl k in
-    let q = pass_head no_colon_lem c b (no_colon_lem c) refl j in
+    let q = pass_head no_colon c b (no_colon c) refl j in
     plain-cons c b (printable_is c r.0) q.0 (plain_of b r.1 q.1)
   where
-    plain-cons : (c : ℕ) (b : List ℕ) → (32 ≤ c) × (c ≤ 126) → no_colon_lem c ≡ true → Plain b → Plain (c ∷ b)
+    plain-cons : (c : ℕ) (b : List ℕ) → (32 ≤ c) × (c ≤ 126) → no_colon c ≡ true → Plain b → Plain (c ∷ b)
     plain-cons c b r q k =
         ⊎_elim (λ e. rw e (space k))
         (λ h. byte (record { low = omega arith; high = r.1; no_colon = λ (e : c ≡ 58). clash q (colon_not c e) }) k)
@@ -106,10 +106,10 @@ unfolding text
 sum_printable Checksum.none = span_none printable
 sum_printable (Checksum.sum {d} r) = pass_cons printable 58 d (between 58 (omega arith) (omega arith)) (pair_printable r)
 
-sum_stops : {s k : List ℕ} → Checksum s k → span no_colon_lem k ≡ 0
+sum_stops : {s k : List ℕ} → Checksum s k → span no_colon k ≡ 0
 unfolding text
-sum_stops Checksum.none = span_none no_colon_lem
-sum_stops (Checksum.sum {d} r) = span_not no_colon_lem 58 d (colon_not 58 refl)
+sum_stops Checksum.none = span_none no_colon
+sum_stops (Checksum.sum {d} r) = span_not no_colon 58 d (colon_not 58 refl)
 
 says : (s : List ℕ) (h l n : ℕ) → n ≡ checksum s → HexPair (h ∷ l ∷ []) n → says_sum s (read_pair h l) ≡ true
 says s h l n e r = rw (pair_read r) (eq-eqb n (checksum s) e)
@@ -138,11 +138,11 @@ sum_of c n s (x ∷ h ∷ l ∷ []) b e = go (says_sum s (read_pair h l)) refl e
 sum_of c n s (x ∷ h ∷ l ∷ y ∷ r) b e = let z : ◌≡◌ {A = ℕ} 0 1 = cc in absurd (omega arith)
 
 -- where the bytes before the first colon end, a colon stands
-pub stop_byte : (l : List ℕ) → 0 < length (drop (span no_colon_lem l) l) → get_or (drop (span no_colon_lem l) l) 0 0 ≡ 58
-stop_byte [] h = let y = rw (span_none no_colon_lem) at h in absurd (omega arith)
+pub stop_byte : (l : List ℕ) → 0 < length (drop (span no_colon l) l) → get_or (drop (span no_colon l) l) 0 0 ≡ 58
+stop_byte [] h = let y = rw (span_none no_colon) at h in absurd (omega arith)
 stop_byte (c ∷ l) h =
-    ⊎_elim (λ e. rw (span_not no_colon_lem c l (colon_not c e)) e)
-    (λ k. rw (span_yes no_colon_lem c l (other_yes c k)) (stop_byte l (rw (span_yes no_colon_lem c l (other_yes c k)) at h)))
+    ⊎_elim (λ e. rw (span_not no_colon c l (colon_not c e)) e)
+    (λ k. rw (span_yes no_colon c l (other_yes c k)) (stop_byte l (rw (span_yes no_colon c l (other_yes c k)) at h)))
     (eq_or_ne c 58)
 
 -- ---- how a line is composed: what the words are is left open
@@ -153,7 +153,7 @@ pub data Composed : List ℕ → List (List ℕ) → Type 0 where
 module _ {s k f : List ℕ} (p : Plain s) (c : Checksum s k) (g : Footer f) where
   body_read_lem : parted (s ++ k) ≡ Frame.Content (length s)
   unfolding parted
-  body_read_lem = rw (pass_append no_colon_lem s k (plain_no_colon p) (sum_stops c), take-append_seam s k, drop-append_seam s k)
+  body_read_lem = rw (pass_append no_colon s k (plain_no_colon p) (sum_stops c), take-append_seam s k, drop-append_seam s k)
       (sum_yes (length s) c)
 
   tail_read : after_slash ((s ++ k) ++ f) ≡ Frame.Content (length s)
@@ -184,7 +184,7 @@ composed_read (composed {s} {k} {f} r c g h) =
 -- a body that is read has its content up to its first colon
 pub body_of : (x : List ℕ) (n : ℕ) → parted x ≡ Frame.Content n → Checksum (take n x) (drop n x)
 unfolding parted
-body_of x n e = rw (parted_fits x n e) (sum_of (span no_colon_lem x) n (take (span no_colon_lem x) x) (drop (span no_colon_lem x) x) (stop_byte x) e)
+body_of x n e = rw (parted_fits x n e) (sum_of (span no_colon x) n (take (span no_colon x) x) (drop (span no_colon x) x) (stop_byte x) e)
 
 compose : (t : List ℕ) (e n : ℕ) → n ≤ e → Plain (take n (take e t)) → Checksum (take n (take e t)) (drop n (take e t)) → Footer (drop e t)
     → length (47 ∷ t) ≤ 80 → Composed (47 ∷ t) (cut (take n t))
@@ -207,8 +207,8 @@ tail_of t n len q = go (is_footer (drop (span printable t) t)) refl
         let x = take e t in
         let r = sym (tail_yes t e refl h) ∙ q in
         let m = parted_fits x n r in
-        let le : n ≤ e = omega (arith, m, span_le no_colon_lem x, length-take e t) in
-        let j : Passes no_colon_lem (take n x) = rw m (front_passes no_colon_lem x) in
+        let le : n ≤ e = omega (arith, m, span_le no_colon x, length-take e t) in
+        let j : Passes no_colon (take n x) = rw m (front_passes no_colon x) in
         compose t e n le (plain_of (take n x) (take_passes printable n x (front_passes printable t)) j) (body_of x n r)
         (footer_of (drop e t) h) len
     go false h = let z : ◌≡◌ {A = ℕ} 0 1 = cc (tail_not t (span printable t) refl h) in absurd (omega arith)
@@ -219,7 +219,7 @@ slash_cons (x ∷ l) h = rw h
 
 pub composed_of : (l : List ℕ) (n : ℕ) → frame_of l ≡ Frame.Content n → Composed l (cut (take n (drop 1 l)))
 composed_of l n e =
-    ⊎_elim (λ h. let z : ◌≡◌ {A = ℕ} 0 1 = cc (too_long l h) in absurd (omega arith))
+    ⊎_elim (λ h. let z : ◌≡◌ {A = ℕ} 0 1 = cc (too_long_lem l h) in absurd (omega arith))
     (λ h. ⊎_elim (λ k. as-slash (drop 1 l) (slash_cons l k) h (sym (slash_first l h k) ∙ e))
     (λ k. let z : ◌≡◌ {A = ℕ} 0 1 = cc (no_slash l h k) in absurd (omega arith))
     (eq_or_ne (get_or l 0 0) 47))

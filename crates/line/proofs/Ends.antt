@@ -15,7 +15,7 @@ use Rattle.laws.proofs.Bools.{clash, or_left, or_right}
 use Rattle.laws.proofs.Passes.{Passes, pass_head, passes_all, all_passes}
 use Rattle.line.specs.Spelling.{Footer}
 use Rattle.line.specs.Reading.{printable, is_end}
-use Rattle.line.specs.Refusals.{footer_size, body, not_line_lem}
+use Rattle.line.specs.Refusals.{footer_size, body, not_line}
 use Rattle.line.proofs.Frames.{low, between}
 use Rattle.line.proofs.Composed.{end_yes, end_low, end_of}
 
@@ -76,8 +76,8 @@ module _ (b f : List ℕ) (k : Passes printable b) (g : Footer f) where
   pub body_is : body (47 ∷ (b ++ f)) ≡ b
   body_is = body_size (b ++ f) (length f) (length b) (foot_size b k g) (length-append b f) ∙ take-append_seam b f
 
-  pub is_line : not_line_lem (47 ∷ (b ++ f)) ≡ false
-  unfolding not_line_lem
+  pub is_line : not_line (47 ∷ (b ++ f)) ≡ false
+  unfolding not_line
   is_line = simp (body_is, passes_all printable b k, foot_size b k g, ne_eqb (length f) 0 (footer_some g))
 
 -- a line that 1 does not refuse has a body and a footer
@@ -120,8 +120,8 @@ split_size (x ∷ y ∷ t) i true true h p q z e =
     split_at (x ∷ y ∷ t) (length t) _ (last_two (x ∷ y ∷ t) (length t) refl) (Footer.two (end_of _ (rw j at q)) (end_of _ p))
     (rw (body_size (x ∷ y ∷ t) 2 (length t) (size_is (x ∷ y ∷ t) i true true h p q) (omega arith)) at e)
 
-pub split : (t : List ℕ) → not_line_lem (47 ∷ t) ≡ false → Split t
-unfolding not_line_lem
+pub split : (t : List ℕ) → not_line (47 ∷ t) ≡ false → Split t
+unfolding not_line
 split t e =
     split_size t (length t - 1) _ _ refl refl refl (or_left (eqb (footer_size (47 ∷ t)) 0) _ e)
     (not-false (all printable (body (47 ∷ t))) (or_right (eqb (footer_size (47 ∷ t)) 0) _ e))

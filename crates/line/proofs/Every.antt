@@ -10,7 +10,7 @@ use lib.ListN.{length}
 use Rattle.laws.proofs.Each.{Each}
 use Rattle.laws.specs.Text.{text, spaced}
 use Rattle.numbers.specs.Spelling.{Digit, UnsignedWord, AddressWord, address}
-use Rattle.numbers.specs.Decimal.{last_digit, digits, two_digits_lem}
+use Rattle.numbers.specs.Decimal.{last_digit, digits, two_digits}
 use Rattle.numbers.proofs.Decimal.{digits_one, digits_spelled, address_spelled}
 use Rattle.words.specs.Spelling.{Spaces, Word, Content, blank, last, next}
 use Rattle.words.proofs.Content.{content_space}
@@ -59,7 +59,7 @@ plain_line {ws} words spelled fits =
 
 -- ---- with both, as the host writes it: an address in two digits, an axis, the words of a command
 abbrev pub content : ℕ → ℕ → List (List ℕ) → List ℕ
-content n k ws = spaced (two_digits_lem n ∷ digits k ∷ ws)
+content n k ws = spaced (two_digits n ∷ digits k ∷ ws)
 
 pub line_spelled : (n k : ℕ) {ws : List (List ℕ)} {c : Command} {es : List (List ℕ)} {t : List ℕ} → n ≤ 99 → k ≤ 9 → Row ws c es
     → Each Word ws → Checksum (content n k ws) t → length (text "/" ++ content n k ws ++ t ++ text "\n") ≤ 80

@@ -31,7 +31,7 @@ use Rattle.line.specs.declared.Frame.TheVariants as Frame
 use Rattle.line.specs.declared.LineRead.{LineRead}
 use Rattle.line.specs.declared.LineRead.TheVariants.{Silent, Addressed}
 use Rattle.line.specs.Spelling.{Asked, Words, Line, longest_line}
-use Rattle.line.specs.Reading.{printable, no_colon_lem, is_footer, checked, parted, after_slash, slashed, frame_of, starts_number, read_words, framed, read_line, carried_by, asked_by, read_asked}
+use Rattle.line.specs.Reading.{printable, no_colon, is_footer, checked, parted, after_slash, slashed, frame_of, starts_number, read_words, framed, read_line, carried_by, asked_by, read_asked}
 use Rattle.line.specs.Refusals.{is_address, bad_address}
 use Rattle.line.proofs.ByWords.{Own, by_words}
 use Rattle.line.proofs.Steps.{begins_plus, begins_minus, begins_digit, starts_none}
@@ -142,7 +142,7 @@ unfolding slashed after_slash parted
 slashed_numbered [] = not_line
 slashed_numbered (c ∷ t) =
     let s = take (span printable t) t in
-    let n = span no_colon_lem s in
+    let n = span no_colon s in
     either NumberedFrame (eqb c slash)
     (either NumberedFrame (is_footer (drop (span printable t) t)) (checked_numbered n (take n s) (drop n s)) not_line)
     not_line

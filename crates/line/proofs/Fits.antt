@@ -12,7 +12,7 @@ use borrow.Author.Tests.{leb-true}
 use Rattle.laws.specs.Lists.{fold, all}
 use Rattle.laws.specs.Text.{text, spaced}
 use Rattle.laws.proofs.Bools.{and_left, and_right}
-use Rattle.numbers.specs.Decimal.{digits, two_digits_lem}
+use Rattle.numbers.specs.Decimal.{digits, two_digits}
 use Rattle.numbers.proofs.Decimal.{digits_length, decimal_length}
 use Rattle.command.specs.declared.AxisSetting.TheVariants as AxisSetting
 use Rattle.command.specs.declared.DeviceSetting.TheVariants as DeviceSetting
@@ -94,7 +94,7 @@ module _ (f : Form) (n : Number32 f.first.0) (p : Number32 f.second.0) where
 -- ---- the line
 module _ (a : Asked) (h : InRange a) (no-echo : carries_words a.command ≡ false) where
   fits : length (line_for a) ≤ 80
-  unfolding line_for content_for spaced text two_digits_lem
+  unfolding line_for content_for spaced text two_digits
   fits =
       let c = a.command in
       let f = form_of c in

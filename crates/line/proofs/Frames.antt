@@ -18,7 +18,7 @@ use Rattle.laws.proofs.Order.{lt_or_le}
 use Rattle.laws.proofs.Span.{span_le}
 use Rattle.numbers.specs.Reading.{read_pair, says_sum}
 use Rattle.numbers.specs.declared.PairRead.{PairRead}
-use Rattle.line.specs.Reading.{printable, no_colon_lem, is_end, is_footer, checked, parted, after_slash, slashed, frame_of}
+use Rattle.line.specs.Reading.{printable, no_colon, is_end, is_footer, checked, parted, after_slash, slashed, frame_of}
 use Rattle.line.specs.Spelling.{longest_line}
 use Rattle.line.specs.declared.Frame.{Frame}
 use Rattle.line.specs.declared.Frame.TheVariants.{Content, Refused}
@@ -37,12 +37,12 @@ module _ (c : ℕ) where
   unfolding printable
   between h k = rw (le-leb 32 c h, le-leb c 126 k)
 
-  pub colon_not : c ≡ 58 → no_colon_lem c ≡ false
-  unfolding no_colon_lem
+  pub colon_not : c ≡ 58 → no_colon c ≡ false
+  unfolding no_colon
   colon_not h = rw (eq-eqb c 58 h)
 
-  pub other_yes : (c ≡ 58 → ⊥) → no_colon_lem c ≡ true
-  unfolding no_colon_lem
+  pub other_yes : (c ≡ 58 → ⊥) → no_colon c ≡ true
+  unfolding no_colon
   other_yes h = rw (ne_eqb c 58 h)
 
 -- ---- the footer
@@ -86,7 +86,7 @@ sum_3 c b (x ∷ y ∷ z ∷ []) t h e = rw e
 sum_3 c b (x ∷ y ∷ z ∷ u ∷ r) t h e = absurd (omega arith)
 
 -- the answers of `read_body`, at the place c of the first colon
-module _ (b : List ℕ) (c : ℕ) (at : c ≡ span no_colon_lem b) where
+module _ (b : List ℕ) (c : ℕ) (at : c ≡ span no_colon b) where
   pub no_sum : length b ≤ c → parted b ≡ Content c
   unfolding parted checked
   no_sum h = rw (← at, drop_of_length-le b h)
@@ -121,9 +121,9 @@ module _ (t : List ℕ) (e : ℕ) (at : e ≡ span printable t) where
   tail_fits = rw at (span_le printable t)
 
 module _ (l : List ℕ) where
-  pub too_long : longest_line < length l → frame_of l ≡ Refused 2
+  pub too_long_lem : longest_line < length l → frame_of l ≡ Refused 2
   unfolding frame_of
-  too_long h = rw (lt-ltb longest_line (length l) h)
+  too_long_lem h = rw (lt-ltb longest_line (length l) h)
 
 pub empty : (l : List ℕ) → length l ≡ 0 → frame_of l ≡ Refused 1
 unfolding frame_of slashed
@@ -153,9 +153,9 @@ checked_fits c n b (x ∷ y ∷ z ∷ []) e = go (says_sum b (read_pair y z)) e
     go false e = let z : ◌≡◌ {A = ℕ} 0 1 = cc in absurd (omega arith)
 checked_fits c n b (x ∷ y ∷ z ∷ u ∷ r) e = let z : ◌≡◌ {A = ℕ} 0 1 = cc in absurd (omega arith)
 
-pub parted_fits : (b : List ℕ) (n : ℕ) → parted b ≡ Content n → n ≡ span no_colon_lem b
+pub parted_fits : (b : List ℕ) (n : ℕ) → parted b ≡ Content n → n ≡ span no_colon b
 unfolding parted
-parted_fits b n e = checked_fits (span no_colon_lem b) n (take (span no_colon_lem b) b) (drop (span no_colon_lem b) b) e
+parted_fits b n e = checked_fits (span no_colon b) n (take (span no_colon b) b) (drop (span no_colon b) b) e
 
 -- a footer is not empty
 footer_some : (t : List ℕ) (e : ℕ) → is_footer (drop e t) ≡ true → e < length t
@@ -170,7 +170,7 @@ tail_content t n e = go (is_footer (drop (span printable t) t)) refl e
         → n < length t
     go true f e =
         let x = take (span printable t) t in
-        omega (arith, parted_fits x n e, span_le no_colon_lem x, length-take (span printable t) t, footer_some t (span printable t) f)
+        omega (arith, parted_fits x n e, span_le no_colon x, length-take (span printable t) t, footer_some t (span printable t) f)
     go false f e = let z : ◌≡◌ {A = ℕ} 0 1 = cc in absurd (omega arith)
 
 slashed_content : (l : List ℕ) (n : ℕ) → slashed l ≡ Content n → n + 1 < length l

@@ -18,8 +18,8 @@ use Rattle.laws.proofs.Passes.{Passes, pass_append, pass_both, front_passes, tak
 use Rattle.numbers.specs.Reading.{read_pair, says_sum}
 use Rattle.numbers.specs.declared.PairRead.{PairRead}
 use Rattle.line.specs.Spelling.{Footer}
-use Rattle.line.specs.Reading.{printable, no_colon_lem, is_end, is_footer, parted, after_slash, frame_of}
-use Rattle.line.specs.Refusals.{footer_size, body, not_line_lem}
+use Rattle.line.specs.Reading.{printable, no_colon, is_end, is_footer, parted, after_slash, frame_of}
+use Rattle.line.specs.Refusals.{footer_size, body, not_line}
 use Rattle.line.specs.FromTheEnd.{plain, content_length, refused_body, body_read}
 use Rattle.line.specs.declared.Frame.{Frame}
 use Rattle.line.specs.declared.Frame.TheVariants.{Content, Refused}
@@ -77,7 +77,7 @@ frame_is b f k g fits =
     ∙ ap parted (take-append_seam b f)
 
 -- where 1 refuses, no footer stands behind the printable bytes
-pub footer_missing : (t : List ℕ) (b : Bool) → not_line_lem (47 ∷ t) ≡ true → is_footer (drop (span printable t) t) ≡ b
+pub footer_missing : (t : List ℕ) (b : Bool) → not_line (47 ∷ t) ≡ true → is_footer (drop (span printable t) t) ≡ b
     → after_slash t ≡ Refused 1
 footer_missing t false e h = tail_not t (span printable t) refl h
 footer_missing t true e h =
@@ -90,25 +90,25 @@ split_frame t s h =
     (frame_is s.front s.back s.passes s.footer (rw s.whole h)
     ∙ ap parted (sym (body_is s.front s.back s.passes s.footer)))
 
-slash_frame : (t : List ℕ) (b : Bool) → length (47 ∷ t) ≤ 80 → not_line_lem (47 ∷ t) ≡ b
+slash_frame : (t : List ℕ) (b : Bool) → length (47 ∷ t) ≤ 80 → not_line (47 ∷ t) ≡ b
     → frame_of (47 ∷ t) ≡ cond b (Refused 1) (parted (body (47 ∷ t)))
 slash_frame t true h e = slash_first (47 ∷ t) h refl ∙ footer_missing t _ e refl
 slash_frame t false h e = split_frame t (split t e) h
 
 module _ (l : List ℕ) (fits : length l ≤ 80) (first : get_or l 0 0 ≡ 47) where
-  from_end : (b : Bool) → not_line_lem l ≡ b → frame_of l ≡ cond b (Refused 1) (parted (body l))
+  from_end : (b : Bool) → not_line l ≡ b → frame_of l ≡ cond b (Refused 1) (parted (body l))
   from_end b e = go (drop 1 l) (slash_cons l first) fits e
     where
-      go : (t : List ℕ) → l ≡ 47 ∷ t → length l ≤ 80 → not_line_lem l ≡ b → frame_of l ≡ cond b (Refused 1) (parted (body l))
+      go : (t : List ℕ) → l ≡ 47 ∷ t → length l ≤ 80 → not_line l ≡ b → frame_of l ≡ cond b (Refused 1) (parted (body l))
       go t q h e = rw q (slash_frame t b (rw q at h) (rw q at e))
 
   module _ {f : ℕ} (size : f ≡ footer_size l) where
     pub footer_none : f ≡ 0 → Refused 1 ≡ frame_of l
-    unfolding not_line_lem
+    unfolding not_line
     footer_none h = sym (from_end true (simp (eq-eqb (get_or l 0 0) 47 first, eq-eqb (footer_size l) 0 (sym size ∙ h))))
 
-    body-test : (f ≡ 0 → ⊥) → not_line_lem l ≡ not (all printable (body l))
-    unfolding not_line_lem
+    body-test : (f ≡ 0 → ⊥) → not_line l ≡ not (all printable (body l))
+    unfolding not_line
     body-test h = simp (eq-eqb (get_or l 0 0) 47 first, ne_eqb (footer_size l) 0 (λ (z : footer_size l ≡ 0). h (size ∙ z)))
 
     body-frame : (b : Bool) → (f ≡ 0 → ⊥) → all printable (body l) ≡ b → frame_of l ≡ body_read (body l)
@@ -125,10 +125,10 @@ module _ (l : List ℕ) (fits : length l ≤ 80) (first : get_or l 0 0 ≡ 47) w
 
 -- ---- the body
 -- bytes that a content may have are those that pass both tests
-plain_both : (s : List ℕ) → all plain s ≡ all printable s && all no_colon_lem s
+plain_both : (s : List ℕ) → all plain s ≡ all printable s && all no_colon s
 unfolding fold plain
 plain_both [] = refl
-plain_both (c ∷ s) = rw (plain_both s) (swap (printable c) (no_colon_lem c) (all printable s) (all no_colon_lem s))
+plain_both (c ∷ s) = rw (plain_both s) (swap (printable c) (no_colon c) (all printable s) (all no_colon s))
   where
     swap : (a b x y : Bool) → (a && b) && (x && y) ≡ (a && x) && (b && y)
     swap true true x y = refl
@@ -183,12 +183,12 @@ unfolding body_read refused_body
 body_forbidden b e = rw e
 
 -- a colon among the first c bytes
-colon_before : (b : List ℕ) (c : ℕ) → all no_colon_lem (take c b) ≡ false → span no_colon_lem b < c
+colon_before : (b : List ℕ) (c : ℕ) → all no_colon (take c b) ≡ false → span no_colon b < c
 colon_before b c e =
     ⊎_elim (λ h. h)
-    (λ h. let k : Passes no_colon_lem (take c (take (span no_colon_lem b) b)) = take_passes no_colon_lem c _ (front_passes no_colon_lem b) in
-    clash (passes_all no_colon_lem (take c b) (rw (take-take c (span no_colon_lem b) b h) at k)) e)
-    (lt_or_le (span no_colon_lem b) c)
+    (λ h. let k : Passes no_colon (take c (take (span no_colon b) b)) = take_passes no_colon c _ (front_passes no_colon b) in
+    clash (passes_all no_colon (take c b) (rw (take-take c (span no_colon b) b h) at k)) e)
+    (lt_or_le (span no_colon b) c)
 
 -- where bytes stand behind the content, these are a colon and two more
 module _ (b : List ℕ) (c : ℕ) (is : c ≡ content_length b) where
@@ -212,27 +212,27 @@ module _ (b : List ℕ) (c : ℕ) (is : c ≡ content_length b) where
 
   -- all bytes of the content are plain
   module _ (ok : all plain (take c b) ≡ true) where
-    both : all printable (take c b) && all no_colon_lem (take c b) ≡ true
+    both : all printable (take c b) && all no_colon (take c b) ≡ true
     both = sym (plain_both (take c b)) ∙ ok
 
     printable-front : Passes printable (take c b)
     printable-front = all_passes printable (take c b) (and_left (all printable (take c b)) _ both)
 
-    colon-first : c < length b → c ≡ span no_colon_lem b
+    colon-first : c < length b → c ≡ span no_colon b
     colon-first l =
-        let d : span no_colon_lem (drop c b) ≡ 0 = rw (drop-cons b c 0 l)
-        (span_not no_colon_lem (get_or b c 0) _ (colon_not (get_or b c 0) (behind_colon l))) in
-        let k : Passes no_colon_lem (take c b) = all_passes no_colon_lem (take c b) (and_right (all printable (take c b)) _ both) in
+        let d : span no_colon (drop c b) ≡ 0 = rw (drop-cons b c 0 l)
+        (span_not no_colon (get_or b c 0) _ (colon_not (get_or b c 0) (behind_colon l))) in
+        let k : Passes no_colon (take c b) = all_passes no_colon (take c b) (and_right (all printable (take c b)) _ both) in
         let n : length (take c b) ≡ c = omega (arith, length-take c b) in
-        sym (ap (span no_colon_lem) (sym (take-append-drop c b)) ∙ pass_append no_colon_lem (take c b) (drop c b) k d ∙ n)
+        sym (ap (span no_colon) (sym (take-append-drop c b)) ∙ pass_append no_colon (take c b) (drop c b) k d ∙ n)
 
     pub no_checksum : length b ≤ c → Content c ≡ body_read b
     unfolding body_read
     no_checksum l =
         let w : take c b ≡ b = take_all c b l in
         let p : all printable b ≡ true = rw w at (and_left (all printable (take c b)) _ both) in
-        let k : Passes no_colon_lem b = all_passes no_colon_lem b (rw w at (and_right (all printable (take c b)) _ both)) in
-        let e : c ≡ span no_colon_lem b = omega (arith, content_in) in
+        let k : Passes no_colon b = all_passes no_colon b (rw w at (and_right (all printable (take c b)) _ both)) in
+        let e : c ≡ span no_colon b = omega (arith, content_in) in
         rw p (sym (no_sum b c e l))
 
     -- the checksum is right
@@ -259,9 +259,9 @@ module _ (b : List ℕ) (c : ℕ) (is : c ≡ content_length b) where
     where
       misplaced : Passes printable b → parted b ≡ Refused 3
       misplaced k =
-          let n = span no_colon_lem b in
+          let n = span no_colon b in
           let f : all printable (take c b) ≡ true = passes_all printable (take c b) (take_passes printable c b k) in
-          let some : all no_colon_lem (take c b) ≡ false = rw f at (sym (plain_both (take c b)) ∙ bad) in
+          let some : all no_colon (take c b) ≡ false = rw f at (sym (plain_both (take c b)) ∙ bad) in
           let l : n < c = colon_before b c some in
           let m : n < length b = omega (arith, content_in) in
           not_3 b n refl m (λ (z : length b - n ≡ 3).

@@ -26,7 +26,7 @@ use Rattle.phrase.proofs.Refused.{words_refused, words_placed}
 use Rattle.phrase.proofs.WordsNumbered.{NumberedWords, no_place, a_place, words_numbered}
 use Rattle.line.specs.Spelling.{Footer}
 use Rattle.line.specs.Reading.{printable, frame_of, starts_number, read_words, read_line, number_of, place_read, asked_by, read_asked}
-use Rattle.line.specs.Refusals.{body, too_long_lem, not_line_lem, bad_sum_lem, content, bad_address, own, words_in, refusal_of}
+use Rattle.line.specs.Refusals.{body, too_long, not_line, bad_sum, content, bad_address, own, words_in, refusal_of}
 use Rattle.line.specs.Place.{address_place, place_with, place_of}
 use Rattle.line.specs.declared.Frame.{Frame}
 use Rattle.line.specs.declared.Frame.TheVariants as Frame
@@ -35,7 +35,7 @@ use Rattle.line.specs.declared.LineRead.TheVariants.{Silent, Addressed}
 use Rattle.line.specs.declared.Opening.{Opening}
 use Rattle.line.specs.Opening.{open_line, read_on}
 use Rattle.line.proofs.ByWords.{Own, by_words}
-use Rattle.line.proofs.Frames.{too_long, no_slash, slash_first}
+use Rattle.line.proofs.Frames.{too_long_lem, no_slash, slash_first}
 use Rattle.line.proofs.Steps.{behind_slash}
 use Rattle.line.proofs.Opened.{opened_read}
 use Rattle.line.proofs.Composed.{slash_cons}
@@ -91,22 +91,22 @@ unfolding read_line place_of place_with
 no_frame l q a b e = (rw (q, e), rw (q, e, a, b), (λ m c. let z : ◌≡◌ {A = ℕ} 0 1 = cc (q, c) in absurd (omega arith)))
 
 too_long_refused : (l : List ℕ) → 80 < length l → LineAgrees l
-unfolding refusal_of first_of too_long_lem
-too_long_refused l h = no_frame l (too_long l h) refl refl (simp (lt-ltb 80 (length l) h))
+unfolding refusal_of first_of too_long
+too_long_refused l h = no_frame l (too_long_lem l h) refl refl (simp (lt-ltb 80 (length l) h))
 
 -- a line that 2 does not refuse
 module _ (l : List ℕ) (fits : length l ≤ 80) where
-  not_line_refused : frame_of l ≡ Frame.Refused 1 → not_line_lem l ≡ true → LineAgrees l
-  unfolding refusal_of first_of too_long_lem
+  not_line_refused : frame_of l ≡ Frame.Refused 1 → not_line l ≡ true → LineAgrees l
+  unfolding refusal_of first_of too_long
   not_line_refused q e = no_frame l q refl refl (simp (le-ltb 80 (length l) fits, e))
 
-  sum_refused : frame_of l ≡ Frame.Refused 3 → not_line_lem l ≡ false → bad_sum_lem (body l) ≡ true → LineAgrees l
-  unfolding refusal_of first_of too_long_lem
+  sum_refused : frame_of l ≡ Frame.Refused 3 → not_line l ≡ false → bad_sum (body l) ≡ true → LineAgrees l
+  unfolding refusal_of first_of too_long
   sum_refused q e k = no_frame l q refl refl (simp (le-ltb 80 (length l) fits, e, k))
 
-  words_answered : (n : ℕ) → frame_of l ≡ Frame.Content n → not_line_lem l ≡ false → bad_sum_lem (body l) ≡ false
+  words_answered : (n : ℕ) → frame_of l ≡ Frame.Content n → not_line l ≡ false → bad_sum (body l) ≡ false
       → take n (drop 1 l) ≡ content (body l) → LineAgrees l
-  unfolding read_line refusal_of first_of too_long_lem place_of words_in
+  unfolding read_line refusal_of first_of too_long place_of words_in
   words_answered n q e k c =
       let ws = words_from 1 (content (body l)) in
       let agree = words_agree (length (take (suc n) l)) ws in
@@ -116,8 +116,8 @@ module _ (l : List ℕ) (fits : length l ≤ 80) where
         (λ m p. let same : n ≡ m = cc (q, p) in rw (← same, behind_slash n l, c)),
       )
 
-  slash_missing : (get_or l 0 0 ≡ 47 → ⊥) → not_line_lem l ≡ true
-  unfolding not_line_lem
+  slash_missing : (get_or l 0 0 ≡ 47 → ⊥) → not_line l ≡ true
+  unfolding not_line
   slash_missing h = simp (ne_eqb (get_or l 0 0) 47 h)
 
 -- a line with its slash, whose body is b
@@ -131,7 +131,7 @@ module _ (b f : List ℕ) (k : Passes printable b) (g : Footer f) (fits : length
 split_refused : (t : List ℕ) → Split t → length (47 ∷ t) ≤ 80 → LineAgrees (47 ∷ t)
 split_refused t s h = rw (← s.whole) (body_refused s.front s.back s.passes s.footer (rw s.whole h) (sums s.front))
 
-slash_refused : (t : List ℕ) (b : Bool) → not_line_lem (47 ∷ t) ≡ b → length (47 ∷ t) ≤ 80 → LineAgrees (47 ∷ t)
+slash_refused : (t : List ℕ) (b : Bool) → not_line (47 ∷ t) ≡ b → length (47 ∷ t) ≤ 80 → LineAgrees (47 ∷ t)
 slash_refused t false e h = split_refused t (split t e) h
 slash_refused t true e h = not_line_refused (47 ∷ t) h (slash_first (47 ∷ t) h refl ∙ footer_missing t _ e refl) e
 

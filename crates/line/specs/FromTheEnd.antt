@@ -4,13 +4,13 @@ use Rattle.std.specs.Prelude.{Bool, cond, ◌&&◌, List, ℕ, ◌-◌, eqb, leb
 use Rattle.laws.specs.Lists.{all}
 use Rattle.laws.specs.Text.{colon}
 use Rattle.laws.specs.Refusals.{NOTLINE, BADSUM}
-use Rattle.line.specs.Reading.{printable, no_colon_lem, parted}
+use Rattle.line.specs.Reading.{printable, no_colon, parted}
 use Rattle.line.specs.declared.Frame.{Frame}
 use Rattle.line.specs.declared.Frame.TheVariants as Frame
 
 -- a byte that a content may have
 unfoldable pub plain : ℕ → Bool
-plain c = printable c && no_colon_lem c
+plain c = printable c && no_colon c
 
 -- how many bytes stand before the checksum, by the colon third from the end; or all of them
 unfoldable pub content_length : List ℕ → ℕ

@@ -22,7 +22,7 @@ unfolding Text.text Text.same Lists.span Checksum.total Checksum.checksum
 open_bytes = 0
 
 unfoldable open_numbers : ℕ
-unfolding Number.value_of Number.scan Number.digits_from Number.starts_hex Number.unsigned_from Number.read_address Number.read_number_lem
+unfolding Number.value_of Number.scan Number.digits_from Number.starts_hex Number.unsigned_from Number.read_address Number.read_number
     Number.read_pair
 open_numbers = 0
 
@@ -40,7 +40,7 @@ unfolding Phrase.ended Phrase.one_number Phrase.read_move Phrase.read_setting Ph
 open_phrase = 0
 
 unfoldable open_line : ℕ
-unfolding Line.printable Line.no_colon_lem Line.is_end Line.is_footer Line.checked Line.parted Line.after_slash Line.slashed Line.frame_of
+unfolding Line.printable Line.no_colon Line.is_end Line.is_footer Line.checked Line.parted Line.after_slash Line.slashed Line.frame_of
     Line.begins_number Line.starts_number Line.axis_digit Line.axis_of Line.read_words Line.read_line Line.read_asked
 open_line = 0
 
@@ -55,7 +55,7 @@ unfolding Lists.fold Refusals.first_of PhraseRefusals.begin_so PhraseRefusals.ju
 open_tables = 0
 
 unfoldable open_refusals : ℕ
-unfolding LineRefusals.footer_size LineRefusals.body LineRefusals.too_long_lem LineRefusals.not_line_lem LineRefusals.checksum_right LineRefusals.bad_sum_lem
+unfolding LineRefusals.footer_size LineRefusals.body LineRefusals.too_long LineRefusals.not_line LineRefusals.checksum_right LineRefusals.bad_sum
     LineRefusals.content LineRefusals.bad_address LineRefusals.behind_axis LineRefusals.own LineRefusals.words_in LineRefusals.refusal_of
     LinePlace.address_place LinePlace.place_with LinePlace.place_of
 open_refusals = 0

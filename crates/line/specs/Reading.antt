@@ -27,8 +27,8 @@ use Rattle.line.specs.Spelling.{Asked, longest_line}
 unfoldable pub printable : ℕ → Bool
 printable c = leb 32 c && leb c 126
 
-unfoldable pub no_colon_lem : ℕ → Bool
-no_colon_lem c = not (eqb c colon)
+unfoldable pub no_colon : ℕ → Bool
+no_colon c = not (eqb c colon)
 
 unfoldable pub is_end : ℕ → Bool
 is_end c = eqb c CR || eqb c LF
@@ -48,7 +48,7 @@ checked n s (x ∷ h ∷ l ∷ []) = cond (says_sum s (read_pair h l)) (Frame.Co
 checked n s (x ∷ h ∷ l ∷ y ∷ r) = Frame.Refused BADSUM
 
 unfoldable pub parted : List ℕ → Frame
-parted s = checked (span no_colon_lem s) (take (span no_colon_lem s) s) (drop (span no_colon_lem s) s)
+parted s = checked (span no_colon s) (take (span no_colon s) s) (drop (span no_colon s) s)
 
 -- what is behind the `/`: printable bytes, and then the footer
 unfoldable pub after_slash : List ℕ → Frame

@@ -10,7 +10,7 @@ use Rattle.numbers.specs.declared.UnsignedRead.TheVariants as Unsigned
 use Rattle.words.specs.Cutting.{Placed, bytes_of, words_from}
 use Rattle.phrase.specs.Refusals.{bad_command, bad_data}
 use Rattle.line.specs.Spelling.{longest_line}
-use Rattle.line.specs.Reading.{printable, no_colon_lem, is_end, starts_number, axis_digit}
+use Rattle.line.specs.Reading.{printable, no_colon, is_end, starts_number, axis_digit}
 
 -- how many bytes the footer has: "one or two bytes, each CR or LF", at the end; none where the last byte is neither
 unfoldable pub footer_size : List ℕ → ℕ
@@ -21,27 +21,27 @@ unfoldable pub body : List ℕ → List ℕ
 body l = take (length l - 1 - footer_size l) (drop 1 l)
 
 -- 2, "over 80 bytes"
-unfoldable pub too_long_lem : List ℕ → Bool
-too_long_lem l = ltb longest_line (length l)
+unfoldable pub too_long : List ℕ → Bool
+too_long l = ltb longest_line (length l)
 
 -- 1, "no `/` first, no footer, or a forbidden byte"
-unfoldable pub not_line_lem : List ℕ → Bool
-not_line_lem l = not (eqb (get_or l 0 0) slash) || (eqb (footer_size l) 0 || not (all printable (body l)))
+unfoldable pub not_line : List ℕ → Bool
+not_line l = not (eqb (get_or l 0 0) slash) || (eqb (footer_size l) 0 || not (all printable (body l)))
 
 -- the last three bytes of b are the checksum of those before them: "A colon stands nowhere else"
 unfoldable pub checksum_right : List ℕ → Bool
 checksum_right b =
     let s = take (length b - 3) b in
     leb 3 (length b) && (eqb (get_or b (length b - 3) 0) colon &&
-    (all no_colon_lem s && says_sum s (read_pair (get_or b (length b - 2) 0) (get_or b (length b - 1) 0))))
+    (all no_colon s && says_sum s (read_pair (get_or b (length b - 2) 0) (get_or b (length b - 1) 0))))
 
 -- 3, "colon out of place, bad digits or wrong sum"
-unfoldable pub bad_sum_lem : List ℕ → Bool
-bad_sum_lem b = not (all no_colon_lem b) && not (checksum_right b)
+unfoldable pub bad_sum : List ℕ → Bool
+bad_sum b = not (all no_colon b) && not (checksum_right b)
 
 -- the content of a body: all of it, or what stands before its checksum
 unfoldable pub content : List ℕ → List ℕ
-content b = cond (all no_colon_lem b) b (take (length b - 3) b)
+content b = cond (all no_colon b) b (take (length b - 3) b)
 
 -- 4, "address word outside the rule": "A first word that begins with a digit, `+` or `-` is always the address word."
 abbrev pub is_address : UnsignedRead → Bool
@@ -70,9 +70,9 @@ unfoldable pub refusal_of : List ℕ → ℕ
 refusal_of l =
     let ws = words_in l in
     first_of
-    (TOOLONG when too_long_lem l
-    ∷ NOTLINE when not_line_lem l
-    ∷ BADSUM when bad_sum_lem (body l)
+    (TOOLONG when too_long l
+    ∷ NOTLINE when not_line l
+    ∷ BADSUM when bad_sum (body l)
     ∷ BADADDRESS when bad_address ws
     ∷ BADCOMMAND when bad_command (bytes_of (own ws))
     ∷ BADDATA when bad_data (bytes_of (own ws))

@@ -3,13 +3,13 @@
 use Rattle.std.specs.Prelude.{List, ◌∷◌, ◌++◌, ℕ, ◌≤◌}
 use Rattle.laws.specs.Text.{text, spaced}
 use Rattle.numbers.specs.Spelling.{highest_address}
-use Rattle.numbers.specs.Decimal.{two_digits_lem, digits}
+use Rattle.numbers.specs.Decimal.{two_digits, digits}
 use Rattle.command.specs.Commands.{command_words}
 use Rattle.phrase.specs.Writing.{Spellable}
 use Rattle.line.specs.Spelling.{Asked}
 
 unfoldable pub content_for : Asked → List ℕ
-content_for a = spaced (two_digits_lem a.address ∷ digits a.axis ∷ command_words a.command a.echo)
+content_for a = spaced (two_digits a.address ∷ digits a.axis ∷ command_words a.command a.echo)
 
 unfoldable pub line_for : Asked → List ℕ
 line_for a = text "/" ++ content_for a ++ text "\n"

@@ -7,28 +7,28 @@ use native.Mathlib.Omega.{arith}
 use lib.ListN.{length, get_or, drop}
 use borrow.Author.Tests.{eq-eqb, ne_eqb, lt-ltb, le-ltb}
 use Rattle.laws.proofs.Bools.{and_false}
-use Rattle.numbers.specs.Reading.{value_of, unsigned_from, above, below, read_number_lem, read_pair}
+use Rattle.numbers.specs.Reading.{value_of, unsigned_from, above, below, read_number, read_pair}
 use Rattle.numbers.specs.declared.NumberRead.TheVariants as Number
 use Rattle.numbers.specs.declared.PairRead.TheVariants as Pair
 
-pub read_none : (w : List ℕ) → length w ≡ 0 → Number.Refused 0 ≡ read_number_lem w
-unfolding read_number_lem
+pub read_none : (w : List ℕ) → length w ≡ 0 → Number.Refused 0 ≡ read_number w
+unfolding read_number
 read_none [] h = refl
 read_none (c ∷ s) h = absurd (omega arith)
 
-pub read_minus : (w : List ℕ) → get_or w 0 0 ≡ 45 → read_number_lem w ≡ below (unsigned_from 2147483648 1 (drop 1 w))
-unfolding read_number_lem
+pub read_minus : (w : List ℕ) → get_or w 0 0 ≡ 45 → read_number w ≡ below (unsigned_from 2147483648 1 (drop 1 w))
+unfolding read_number
 read_minus [] e = absurd (omega arith)
 read_minus (c ∷ s) e = rw (eq-eqb c 45 e)
 
-pub read_plus : (w : List ℕ) → get_or w 0 0 ≡ 43 → read_number_lem w ≡ above (unsigned_from 2147483647 1 (drop 1 w))
-unfolding read_number_lem
+pub read_plus : (w : List ℕ) → get_or w 0 0 ≡ 43 → read_number w ≡ above (unsigned_from 2147483647 1 (drop 1 w))
+unfolding read_number
 read_plus [] e = absurd (omega arith)
 read_plus (c ∷ s) e = rw (ne_eqb c 45 (λ (f : c ≡ 45). omega arith), eq-eqb c 43 e)
 
 pub read_bare : (w : List ℕ) → (length w ≡ 0 → ⊥) → (get_or w 0 0 ≡ 45 → ⊥) → (get_or w 0 0 ≡ 43 → ⊥)
-    → read_number_lem w ≡ above (unsigned_from 2147483647 0 w)
-unfolding read_number_lem
+    → read_number w ≡ above (unsigned_from 2147483647 0 w)
+unfolding read_number
 read_bare [] h e f = absurd (h refl)
 read_bare (c ∷ s) h e f = rw (ne_eqb c 45 e, ne_eqb c 43 f)
 

@@ -6,7 +6,7 @@ use Prim.Native.Nat.{ℕ}
 use Prim.Native.String.{String}
 use lib.IntN.{ℤ, pos, negsuc}
 use Rattle.laws.specs.Text.{text, same}
-use Rattle.numbers.specs.Reading.{value_of, scan, digits_from, starts_hex, unsigned_from, read_address, read_number_lem}
+use Rattle.numbers.specs.Reading.{value_of, scan, digits_from, starts_hex, unsigned_from, read_address, read_number}
 use Rattle.numbers.specs.declared.UnsignedRead.{UnsignedRead}
 use Rattle.numbers.specs.declared.UnsignedRead.TheVariants as Unsigned
 use Rattle.numbers.specs.declared.NumberRead.{NumberRead}
@@ -47,8 +47,8 @@ numbers =
     ∷ stops "12a" 2
     ∷ []
 
-pub number_cases : map (λ r. read_number_lem (text r.word)) numbers ≡ map (λ r. r.answer) numbers
-unfolding numbers read_number_lem unsigned_from starts_hex digits_from scan value_of text same
+pub number_cases : map (λ r. read_number (text r.word)) numbers ≡ map (λ r. r.answer) numbers
+unfolding numbers read_number unsigned_from starts_hex digits_from scan value_of text same
 number_cases = refl
 
 abbrev at : String → ℕ → Row UnsignedRead

@@ -14,7 +14,7 @@ use mir.Val.{SFits}
 use borrow.Author.Tests.{lt-ltb, le-ltb}
 use Rattle.laws.specs.Text.{text}
 use Rattle.laws.proofs.Order.{lt_or_le}
-use Rattle.numbers.specs.Decimal.{last_digit, digits_within, digits, decimal, two_digits_lem, hex_digit, hex_pair}
+use Rattle.numbers.specs.Decimal.{last_digit, digits_within, digits, decimal, two_digits, hex_digit, hex_pair}
 use Rattle.numbers.specs.Spelling.{Digit, Digits, UnsignedWord, NumberWord, AddressWord, HexPair}
 
 -- the tenth of a number of k + 2 digits has k + 1
@@ -124,13 +124,13 @@ decimal_spelled (negsuc n) f = let h = f.sfits in
     NumberWord.signed_minus (UnsignedWord.decimal (digits_spelled (suc n) (omega arith))) (omega arith)
 
 -- an address in two digits is an address word
-pub two_spelled : (n : ℕ) → n ≤ 99 → Digits 10 (two_digits_lem n) n
-unfolding two_digits_lem
+pub two_spelled : (n : ℕ) → n ≤ 99 → Digits 10 (two_digits n) n
+unfolding two_digits
 two_spelled n h =
     let e : n / 10 % 10 * 10 + n % 10 ≡ n = omega arith in
-    subst (Digits 10 (two_digits_lem n)) e (Digits.more (Digits.one (figure (n / 10))) (figure n))
+    subst (Digits 10 (two_digits n)) e (Digits.more (Digits.one (figure (n / 10))) (figure n))
 
-pub address_spelled : (n : ℕ) → n ≤ 99 → AddressWord (two_digits_lem n) n
+pub address_spelled : (n : ℕ) → n ≤ 99 → AddressWord (two_digits n) n
 address_spelled n h = AddressWord.address (UnsignedWord.decimal (two_spelled n h)) h
 
 -- a byte's two hex digits are a pair

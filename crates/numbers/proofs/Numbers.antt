@@ -13,7 +13,7 @@ use Rattle.laws.specs.Text.{text}
 use Rattle.laws.proofs.Order.{lt_or_le, eq_or_ne}
 use Rattle.laws.proofs.Bools.{clash}
 use Rattle.numbers.specs.Checksum.{checksum}
-use Rattle.numbers.specs.Reading.{value_of, digits_from, starts_hex, unsigned_from, read_address, above, below, read_number_lem, read_pair, says_sum}
+use Rattle.numbers.specs.Reading.{value_of, digits_from, starts_hex, unsigned_from, read_address, above, below, read_number, read_pair, says_sum}
 use Rattle.numbers.specs.Spelling.{UnsignedWord, decimal, hex, NumberWord, bare, signed_plus, signed_minus, AddressWord, address, HexPair, pair}
 use Rattle.numbers.specs.declared.UnsignedRead.{UnsignedRead}
 use Rattle.numbers.specs.declared.UnsignedRead.TheVariants as Unsigned
@@ -107,7 +107,7 @@ not_empty {s} u = go s (no_sign u 0 (omega arith))
     go [] h e = h refl
     go (c ∷ s) h e = omega arith
 
-pub number_read : {s : List ℕ} {v : ℤ} → NumberWord s v → read_number_lem s ≡ Number.Value (record { 0 = v })
+pub number_read : {s : List ℕ} {v : ℤ} → NumberWord s v → read_number s ≡ Number.Value (record { 0 = v })
 unfolding text
 number_read (bare {s} {n} u h) =
     answers.read_bare s (not_empty u) (no_sign u 45 (omega arith)) (no_sign u 43 (omega arith)) ∙ ap above (unsigned_read 2147483647 0 u h)
@@ -132,8 +132,8 @@ below_is : (m : UnsignedRead) (v : ℤ) → below m ≡ Number.Value (record { 0
 below_is (Unsigned.Value n) v e = (n, refl, one_value e)
 below_is (Unsigned.Refused p) v e = let z : ◌≡◌ {A = ℕ} 0 1 = cc in absurd (omega arith)
 
-pub number_of : (s : List ℕ) (v : ℤ) → read_number_lem s ≡ Number.Value (record { 0 = v }) → NumberWord s v
-unfolding read_number_lem text
+pub number_of : (s : List ℕ) (v : ℤ) → read_number s ≡ Number.Value (record { 0 = v }) → NumberWord s v
+unfolding read_number text
 number_of [] v e = let z : ◌≡◌ {A = ℕ} 0 1 = cc in absurd (omega arith)
 number_of (c ∷ s) v e =
     ⊎_elim (λ m. let k = below_is (unsigned_from 2147483648 1 s) v (sym (answers.read_minus (c ∷ s) m) ∙ e) in
@@ -149,7 +149,7 @@ number_of (c ∷ s) v e =
     (eq_or_ne c 43))
     (eq_or_ne c 45)
 
-pub number_iff : (s : List ℕ) (v : ℤ) → NumberWord s v ↔ (read_number_lem s ≡ Number.Value (record { 0 = v }))
+pub number_iff : (s : List ℕ) (v : ℤ) → NumberWord s v ↔ (read_number s ≡ Number.Value (record { 0 = v }))
 number_iff s v = (number_read, number_of s v)
 
 pub number_one : {s : List ℕ} {v u : ℤ} → NumberWord s v → NumberWord s u → v ≡ u

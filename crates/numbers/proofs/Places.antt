@@ -11,7 +11,7 @@ use lib.ListN.{length, take, drop}
 use Rattle.laws.specs.Text.{text}
 use Rattle.laws.proofs.Order.{lt_or_le, eq_or_ne}
 use Rattle.numbers.specs.Place.{ANumber, AnAddress, LongestFront}
-use Rattle.numbers.specs.Reading.{value_of, scan, digits_from, starts_hex, unsigned_from, read_address, above, below, read_number_lem}
+use Rattle.numbers.specs.Reading.{value_of, scan, digits_from, starts_hex, unsigned_from, read_address, above, below, read_number}
 use Rattle.numbers.specs.Spelling.{bare}
 use Rattle.numbers.specs.declared.UnsignedRead.{UnsignedRead}
 use Rattle.numbers.specs.declared.UnsignedRead.TheVariants.{Value, Refused}
@@ -147,10 +147,10 @@ module _ (most i : ℕ) where
 
 -- ---- numbers
 abbrev NumberReads : List ℕ → Type 0
-NumberReads s = (v : ℤ) × (read_number_lem s ≡ Number.Value (record { 0 = v }))
+NumberReads s = (v : ℤ) × (read_number s ≡ Number.Value (record { 0 = v }))
 
 abbrev NumberRefuses : ℕ → List ℕ → Type 0
-NumberRefuses p s = read_number_lem s ≡ Number.Refused p
+NumberRefuses p s = read_number s ≡ Number.Refused p
 
 above_refused : (m : UnsignedRead) (p : ℕ) → above m ≡ Number.Refused p → m ≡ Refused p
 above_refused (Value n) p e = let z : ◌≡◌ {A = ℕ} 0 1 = cc in absurd (omega arith)
@@ -165,8 +165,8 @@ bare_read : (x : List ℕ) → Reads (unsigned_from 2147483647 0) x → NumberRe
 unfolding Reads
 bare_read x v = let u = unsigned_is 2147483647 0 x v.0 v.1 in (pos v.0, number_read (bare u.0 u.1))
 
-number_stops : (w : List ℕ) (p : ℕ) → read_number_lem w ≡ Number.Refused p → Stops NumberReads (NumberRefuses p) w p
-unfolding read_number_lem Reads Refuses
+number_stops : (w : List ℕ) (p : ℕ) → read_number w ≡ Number.Refused p → Stops NumberReads (NumberRefuses p) w p
+unfolding read_number Reads Refuses
 number_stops [] p e =
     let z : 0 ≡ p = cc in
     rw (← z) (stops_end (48 ∷ []) (bare_read (48 ∷ [])
@@ -178,7 +178,7 @@ number_stops (c ∷ s) p e =
     (λ m. ⊎_elim (λ q. let k = answers.read_plus (c ∷ s) q in
     behind above (λ n. pos n) (λ n. refl) (λ q. refl) 2147483647 (λ x. answers.read_plus (c ∷ x) q)
     (above_refused (unsigned_from 2147483647 1 s) p (sym k ∙ e)))
-    (λ q. let none : (x : List ℕ) → read_number_lem (c ∷ x) ≡ above (unsigned_from 2147483647 0 (c ∷ x)) = λ x. answers.read_bare (c ∷ x)
+    (λ q. let none : (x : List ℕ) → read_number (c ∷ x) ≡ above (unsigned_from 2147483647 0 (c ∷ x)) = λ x. answers.read_bare (c ∷ x)
     (λ (z : length (c ∷ x) ≡ 0). omega arith) m q in
     plainly none (unsigned_stops 2147483647 0 (c ∷ s) p (above_refused (unsigned_from 2147483647 0 (c ∷ s)) p (sym (none s) ∙ e))))
     (eq_or_ne c 43))
@@ -187,7 +187,7 @@ number_stops (c ∷ s) p e =
     -- behind a sign
     behind : (sign : UnsignedRead → NumberRead) (signed : ℕ → ℤ) → ((n : ℕ) → sign (Value n) ≡ Number.Value (record { 0 = signed n }))
         → ((q : ℕ) → sign (Refused q) ≡ Number.Refused q)
-        → (most : ℕ) → ((x : List ℕ) → read_number_lem (c ∷ x) ≡ sign (unsigned_from most 1 x)) → unsigned_from most 1 s ≡ Refused p
+        → (most : ℕ) → ((x : List ℕ) → read_number (c ∷ x) ≡ sign (unsigned_from most 1 x)) → unsigned_from most 1 s ≡ Refused p
         → Stops NumberReads (NumberRefuses p) (c ∷ s) p
     behind sign signed value-is refused most reads r =
         let u = unsigned_stops most 1 s p r in
@@ -197,7 +197,7 @@ number_stops (c ∷ s) p e =
         u.stops)
 
     -- without a sign
-    plainly : ((x : List ℕ) → read_number_lem (c ∷ x) ≡ above (unsigned_from 2147483647 0 (c ∷ x)))
+    plainly : ((x : List ℕ) → read_number (c ∷ x) ≡ above (unsigned_from 2147483647 0 (c ∷ x)))
         → StopsAt (unsigned_from 2147483647 0) 0 (c ∷ s) p → Stops NumberReads (NumberRefuses p) (c ∷ s) p
     plainly none u =
         let z : u.passed ≡ p = omega (arith, u.place) in
@@ -206,28 +206,28 @@ number_stops (c ∷ s) p e =
         (record { inside = f.inside; rest = f.rest; begins = bare_read _ f.begins; stays = stays f })
       where
         stays : {k : ℕ} → Stops (Reads (unsigned_from 2147483647 0)) (Refuses (unsigned_from 2147483647 0) p) (c ∷ s) k
-            → (q : ℕ) → k < q → q ≤ length (c ∷ s) → (t : List ℕ) → read_number_lem (take q (c ∷ s) ++ t) ≡ Number.Refused p
+            → (q : ℕ) → k < q → q ≤ length (c ∷ s) → (t : List ℕ) → read_number (take q (c ∷ s) ++ t) ≡ Number.Refused p
         stays f zero h l t = absurd (omega arith)
         stays f (suc q) h l t = none (take q s ++ t) ∙ ap above (f.stays (suc q) h l t)
 
 -- ---- what the place means
 
-number_never : (w : List ℕ) (p : ℕ) → read_number_lem w ≡ Number.Refused p → ANumber w → ⊥
+number_never : (w : List ℕ) (p : ℕ) → read_number w ≡ Number.Refused p → ANumber w → ⊥
 number_never w p e n = let z : ◌≡◌ {A = ℕ} 0 1 = cc (number_read n.1) in omega arith
 
-number_place : (w : List ℕ) (p : ℕ) → read_number_lem w ≡ Number.Refused p → LongestFront ANumber w p
+number_place : (w : List ℕ) (p : ℕ) → read_number w ≡ Number.Refused p → LongestFront ANumber w p
 number_place w p e = stops_longest (λ x v. (v.0, number_of x v.0 v.1)) (λ x r. number_never x p r) (number_stops w p e)
 
-number_either : (w : List ℕ) → ANumber w ⊎ ((p : ℕ) × (read_number_lem w ≡ Number.Refused p))
-number_either w = go (read_number_lem w) refl
+number_either : (w : List ℕ) → ANumber w ⊎ ((p : ℕ) × (read_number w ≡ Number.Refused p))
+number_either w = go (read_number w) refl
   where
-    go : (r : NumberRead) → read_number_lem w ≡ r → ANumber w ⊎ ((p : ℕ) × (read_number_lem w ≡ Number.Refused p))
+    go : (r : NumberRead) → read_number w ≡ r → ANumber w ⊎ ((p : ℕ) × (read_number w ≡ Number.Refused p))
     go (Number.Value v) e = inl (v.0, number_of w v.0 e)
     go (Number.Refused p) e = inr (p, e)
 
 -- The reader refuses a word at place p exactly where the word is no number's, and p is the length of its longest front that begins one.
-pub number_refused : (w : List ℕ) (p : ℕ) → (read_number_lem w ≡ Number.Refused p) ↔ ((ANumber w → ⊥) × LongestFront ANumber w p)
-number_refused = refused_iff read_number_lem Number.Refused ANumber number_never number_place number_either
+pub number_refused : (w : List ℕ) (p : ℕ) → (read_number w ≡ Number.Refused p) ↔ ((ANumber w → ⊥) × LongestFront ANumber w p)
+number_refused = refused_iff read_number Number.Refused ANumber number_never number_place number_either
 
 address_never : (w : List ℕ) (p : ℕ) → read_address w ≡ Refused p → AnAddress w → ⊥
 address_never w p e n = let z : ◌≡◌ {A = ℕ} 0 1 = cc (address_read n.1) in omega arith

@@ -61,9 +61,9 @@ below (Unsigned.Value n) = Number.Value (record { 0 = minus n })
 below (Unsigned.Refused p) = Number.Refused p
 
 -- a number: a sign or none, and a range with two different ends
-unfoldable pub read_number_lem : List ℕ → NumberRead
-read_number_lem [] = Number.Refused 0
-read_number_lem (c ∷ s) =
+unfoldable pub read_number : List ℕ → NumberRead
+read_number [] = Number.Refused 0
+read_number (c ∷ s) =
     cond (eqb c minus_sign) (below (unsigned_from 2147483648 1 s))
     (cond (eqb c plus_sign) (above (unsigned_from 2147483647 1 s))
     (above (unsigned_from 2147483647 0 (c ∷ s))))

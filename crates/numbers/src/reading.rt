@@ -1,7 +1,7 @@
 // Reads a number's word: its value, or the place in the word that made it refuse. Reads hex pairs, and holds them against a checksum.
 // The rules are in specs/Reading.antt; proofs/Numbers.antt shows that just what is spelled is read.
 ghost use Rattle.std.specs.Prelude.{◌≡◌};
-ghost use Rattle.numbers.specs.Reading.{AtMost, read_address as address_in, above, below, read_number_lem as number_in, read_pair as pairIn, says_sum};
+ghost use Rattle.numbers.specs.Reading.{AtMost, read_address as address_in, above, below, read_number as number_in, read_pair as pairIn, says_sum};
 
 use crate::digits::{digit_value, unsigned};
 use crate::{HIGHEST_ADDRESS, NumberRead, PairRead, UnsignedRead};

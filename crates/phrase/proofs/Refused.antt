@@ -9,7 +9,7 @@ use Rattle.laws.specs.Text.{text, same}
 use Rattle.laws.specs.Refusals.{◌when◌, first_of, NOWHERE}
 use Rattle.laws.proofs.Bools.{and_false}
 use Rattle.laws.proofs.Each.{none}
-use Rattle.numbers.specs.Reading.{read_number_lem}
+use Rattle.numbers.specs.Reading.{read_number}
 use Rattle.numbers.specs.declared.NumberRead.{NumberRead}
 use Rattle.numbers.specs.declared.NumberRead.TheVariants as Number
 use Rattle.words.specs.Cutting.{Placed, placed, bytes_of}
@@ -64,7 +64,7 @@ ended_fits c (w ∷ t) = (fit false, refl)
 number_fits : (k : Numbered) (t : List Placed) → Behind (N ∷ []) (one_number k t) t
 unfolding one_number just_so other_words_fit first_refused
 number_fits k [] = (fit false, refl)
-number_fits k (w ∷ []) = go (read_number_lem w.bytes)
+number_fits k (w ∷ []) = go (read_number w.bytes)
   where
     go : (r : NumberRead) → (words_number (made k w.start r) ≡ given false (not (is_number r && true || false)))
         × (place_told (made k w.start r) ≡ or_else w.start r NOWHERE)
@@ -130,15 +130,15 @@ module _ (i : ℕ) where
     storepos-agrees : (t : List Placed) → Storepos t
     unfolding read_command read_tools read_storepos meaning_of tables
     storepos-agrees [] = (refl, refl)
-    storepos-agrees (w ∷ []) = go (read_number_lem w.bytes) refl
+    storepos-agrees (w ∷ []) = go (read_number w.bytes) refl
       where
-        go : (x : NumberRead) → read_number_lem w.bytes ≡ x → Storepos (w ∷ [])
+        go : (x : NumberRead) → read_number w.bytes ≡ x → Storepos (w ∷ [])
         go (Number.Value n) q = rw q (refl, refl)
         go (Number.Refused o) q = rw q (refl, refl)
-    storepos-agrees (w ∷ v ∷ []) = go (same v.bytes (text "current")) refl (read_number_lem w.bytes) refl (read_number_lem v.bytes) refl
+    storepos-agrees (w ∷ v ∷ []) = go (same v.bytes (text "current")) refl (read_number w.bytes) refl (read_number v.bytes) refl
       where
-        go : (b : Bool) → same v.bytes (text "current") ≡ b → (x : NumberRead) → read_number_lem w.bytes ≡ x
-            → (y : NumberRead) → read_number_lem v.bytes ≡ y → Storepos (w ∷ v ∷ [])
+        go : (b : Bool) → same v.bytes (text "current") ≡ b → (x : NumberRead) → read_number w.bytes ≡ x
+            → (y : NumberRead) → read_number v.bytes ≡ y → Storepos (w ∷ v ∷ [])
         go true e (Number.Value n) q (Number.Value m) r = rw (e, q, r) (refl, refl)
         go true e (Number.Value n) q (Number.Refused o) r = rw (e, q, r) (refl, refl)
         go true e (Number.Refused o) q (Number.Value m) r = rw (e, q, r) (refl, refl)

@@ -16,7 +16,7 @@ use Rattle.laws.proofs.Each.{Each, none}
 use Rattle.laws.proofs.Same.{same_true}
 use Rattle.units.specs.Units.{number}
 use Rattle.numbers.specs.Spelling.{NumberWord}
-use Rattle.numbers.specs.Reading.{read_number_lem, value_of, unsigned_from, digits_from, scan, starts_hex}
+use Rattle.numbers.specs.Reading.{read_number, value_of, unsigned_from, digits_from, scan, starts_hex}
 use Rattle.numbers.specs.declared.NumberRead.{NumberRead}
 use Rattle.numbers.specs.declared.NumberRead.TheVariants as Number
 use Rattle.numbers.proofs.Numbers.{number_read, number_of}
@@ -71,8 +71,8 @@ set_read : (s : Setting) (i : ℕ) {w : List ℕ} {n : ℤ} → read_only s ≡ 
 set_read s i r h = rw r (one_read (With.SetTo s) i h)
 
 -- the word `current` is no number
-pub current_refused : read_number_lem (text "current") ≡ Number.Refused 0
-unfolding read_number_lem unsigned_from digits_from scan starts_hex value_of same text
+pub current_refused : read_number (text "current") ≡ Number.Refused 0
+unfolding read_number unsigned_from digits_from scan starts_hex value_of same text
 current_refused = refl
 
 no_current : {w : List ℕ} {n : ℤ} → NumberWord w n → same w (text "current") ≡ false
@@ -185,10 +185,10 @@ record Made (k : Numbered) (w : List ℕ) (c : Command) : Type 0 where
   word : NumberWord w value
   is : numbered k (number value) ≡ c
 
-made_is : (k : Numbered) (i : ℕ) (w : List ℕ) {c : Command} {q : ℕ} → made k i (read_number_lem w) ≡ Words.Command c q → Made k w c
-made_is k i w {c} {q} e = go (read_number_lem w) refl e
+made_is : (k : Numbered) (i : ℕ) (w : List ℕ) {c : Command} {q : ℕ} → made k i (read_number w) ≡ Words.Command c q → Made k w c
+made_is k i w {c} {q} e = go (read_number w) refl e
   where
-    go : (r : NumberRead) → read_number_lem w ≡ r → made k i r ≡ Words.Command c q → Made k w c
+    go : (r : NumberRead) → read_number w ≡ r → made k i r ≡ Words.Command c q → Made k w c
     go (Number.Value n) q e = record { value = n.0; word = number_of w n.0 q; is = cc }
     go (Number.Refused p) q e = no_command e
 
@@ -268,19 +268,19 @@ after_storepos [] e = no_command e
 after_storepos (w ∷ []) e = let m = made_is With.Store w.start w.bytes e in put refl m.is (Row.storepos m.word)
 after_storepos (w ∷ v ∷ []) {c} {q} e = go (same v.bytes (text "current")) refl e
   where
-    at : (n : NumberRead) → read_number_lem w.bytes ≡ n → store_at w.start n v ≡ Words.Command c q
+    at : (n : NumberRead) → read_number w.bytes ≡ n → store_at w.start n v ≡ Words.Command c q
         → Spelled (text "tools" ∷ text "storepos" ∷ w.bytes ∷ v.bytes ∷ []) c
     at (Number.Refused p) q e = no_command e
     at (Number.Value n) q e = let m = made_is (With.StoreAt n) v.start v.bytes e in
         put refl m.is (Row.storepos_at (number_of w.bytes n.0 q) m.word)
 
     go : (b : Bool) → same v.bytes (text "current") ≡ b
-        → cond b (made With.StoreCurrent w.start (read_number_lem w.bytes)) (store_at w.start (read_number_lem w.bytes) v)
+        → cond b (made With.StoreCurrent w.start (read_number w.bytes)) (store_at w.start (read_number w.bytes) v)
         ≡ Words.Command c q
         → Spelled (text "tools" ∷ text "storepos" ∷ w.bytes ∷ v.bytes ∷ []) c
     go true q e = let m = made_is With.StoreCurrent w.start w.bytes e in
         rw (same_true v.bytes (text "current") q) (put refl m.is (Row.storepos_current m.word))
-    go false q e = at (read_number_lem w.bytes) refl e
+    go false q e = at (read_number w.bytes) refl e
 after_storepos (w ∷ v ∷ u ∷ t) e = no_command e
 
 behind_parking : (ws : List Placed) {c : Command} {q : ℕ} → read_parking ws ≡ Words.Command c q

@@ -12,7 +12,7 @@ use lib.ListN.{length, take, drop, length-take}
 use Rattle.laws.specs.Text.{text, same}
 use Rattle.laws.proofs.Bools.{clash}
 use Rattle.laws.proofs.Order.{eq_or_ne}
-use Rattle.numbers.specs.Reading.{read_number_lem}
+use Rattle.numbers.specs.Reading.{read_number}
 use Rattle.numbers.specs.declared.NumberRead.{NumberRead}
 use Rattle.numbers.specs.declared.NumberRead.TheVariants as Number
 use Rattle.numbers.proofs.Places.{number_refused}
@@ -131,7 +131,7 @@ module _ (s : List ℕ) (at : ℕ) {w : Word} (is : w ≡ word_at s at) where
 
     -- a is where `start_of` finds that a second word may start: the first one is a number and is the last
     module _ {a : ℕ} (q : a ≡ start_of s w.end) (k : Numbered) where
-      pub number_alone_lem : {n : NumberRead} {r : WordsRead} → length s ≤ a → n ≡ read_number_lem first → r ≡ made k w.start n
+      pub number_alone_lem : {n : NumberRead} {r : WordsRead} → length s ≤ a → n ≡ read_number first → r ≡ made k w.start n
           → r ≡ one_number k words
       unfolding one_number
       number_alone_lem l e z = rw (words_full s at is h, words_none s w.end q l, ← e) z
@@ -141,7 +141,7 @@ module _ (s : List ℕ) (at : ℕ) {w : Word} (is : w ≡ word_at s at) where
       number_more l = rw (words_full s at is h, words_some s w.end q l)
 
     -- v is where `word_at` finds the second word
-    module _ {v : Word} (is-second : v ≡ word_at s w.end) {n : NumberRead} (e : n ≡ read_number_lem first) where
+    module _ {v : Word} (is-second : v ≡ word_at s w.end) {n : NumberRead} (e : n ≡ read_number first) where
       abbrev second : List ℕ
       second = take (v.end - v.start) (drop v.start s)
 
@@ -167,10 +167,10 @@ module _ (s : List ℕ) (at : ℕ) {w : Word} (is : w ≡ word_at s at) where
           store_at_lem t z = rw (words_full s at is h, words_full s w.end is-second g, words_none s v.end q l, t, ← e) z
 
   -- where a number that is read there refuses is a place of the text
-  pub number_places : Fits w64 (length s) → {n : NumberRead} → n ≡ read_number_lem first → Places w.start n
+  pub number_places : Fits w64 (length s) → {n : NumberRead} → n ≡ read_number first → Places w.start n
   number_places size {n} e = go n e
     where
-      go : (n : NumberRead) → n ≡ read_number_lem first → Places w.start n
+      go : (n : NumberRead) → n ≡ read_number first → Places w.start n
       go (Number.Value m) q = tt
       go (Number.Refused p) q =
           let inside = ((number_refused first p).0 (sym q)).1.inside in

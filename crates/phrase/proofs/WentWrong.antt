@@ -14,7 +14,7 @@ use Rattle.laws.proofs.Bools.{and_left, and_right, clash}
 use Rattle.laws.proofs.Each.{OneOf, first, later}
 use Rattle.laws.proofs.Order.{lt_or_le}
 use Rattle.numbers.specs.Place.{ANumber, Begins, LongestFront}
-use Rattle.numbers.specs.Reading.{read_number_lem}
+use Rattle.numbers.specs.Reading.{read_number}
 use Rattle.numbers.specs.declared.NumberRead.{NumberRead}
 use Rattle.numbers.specs.declared.NumberRead.TheVariants as Number
 use Rattle.numbers.proofs.Places.{number_refused}
@@ -63,7 +63,7 @@ wrong_of f x = record {
 }
 
 -- ---- one row
-due_number : (p : Place) (w : List ℕ) → number_due p w ≡ true → stands p w ≡ is_number (read_number_lem w)
+due_number : (p : Place) (w : List ℕ) → number_due p w ≡ true → stands p w ≡ is_number (read_number w)
 due_number (word v) w e = clash e refl
 due_number SETTING w e = clash e refl
 due_number WRITABLE w e = clash e refl
@@ -88,7 +88,7 @@ row_wrong (p ∷ ps) (w ∷ ws) e =
         → ((stands p w.bytes && just_so ps (bytes_of ws) ≡ true) × (q ≡ NOWHERE)) ⊎ WrongAt ANumber (w ∷ ws) q
     right s told = ⊎_elim (λ t. inl (rw (s, t.0) refl, t.1)) (λ x. inr (wrong_of (λ v o. later o) x)) told
 
-    by : (r : NumberRead) → read_number_lem w.bytes ≡ r → stands p w.bytes ≡ is_number r → RowTold ps ws (first_refused ps ws)
+    by : (r : NumberRead) → read_number w.bytes ≡ r → stands p w.bytes ≡ is_number r → RowTold ps ws (first_refused ps ws)
         → ((stands p w.bytes && just_so ps (bytes_of ws) ≡ true) × (or_else w.start r (first_refused ps ws) ≡ NOWHERE))
         ⊎ WrongAt ANumber (w ∷ ws) (or_else w.start r (first_refused ps ws))
     by (Number.Value n) q s told = right s told
@@ -96,9 +96,9 @@ row_wrong (p ∷ ps) (w ∷ ws) e =
 
     go : (b : Bool) → number_due p w.bytes ≡ b → (b || stands p w.bytes) ≡ true → RowTold ps ws (first_refused ps ws)
         → ((stands p w.bytes && just_so ps (bytes_of ws) ≡ true)
-        × (cond b (or_else w.start (read_number_lem w.bytes) (first_refused ps ws)) (first_refused ps ws) ≡ NOWHERE))
-        ⊎ WrongAt ANumber (w ∷ ws) (cond b (or_else w.start (read_number_lem w.bytes) (first_refused ps ws)) (first_refused ps ws))
-    go true d s told = by (read_number_lem w.bytes) refl (due_number p w.bytes d) told
+        × (cond b (or_else w.start (read_number w.bytes) (first_refused ps ws)) (first_refused ps ws) ≡ NOWHERE))
+        ⊎ WrongAt ANumber (w ∷ ws) (cond b (or_else w.start (read_number w.bytes) (first_refused ps ws)) (first_refused ps ws))
+    go true d s told = by (read_number w.bytes) refl (due_number p w.bytes d) told
     go false d s told = right s told
 
 -- ---- the table

@@ -6,7 +6,7 @@ use Prim.Native.Nat.{ℕ}
 use Rattle.laws.specs.Refusals.{BADCOMMAND, BADDATA, NOWHERE}
 use Rattle.laws.specs.Text.{text, same}
 use Rattle.laws.proofs.Each.{Each, none, more}
-use Rattle.numbers.specs.Reading.{read_number_lem}
+use Rattle.numbers.specs.Reading.{read_number}
 use Rattle.numbers.specs.declared.NumberRead.{NumberRead}
 use Rattle.numbers.specs.declared.NumberRead.TheVariants as Number
 use Rattle.words.specs.Cutting.{Placed}
@@ -62,7 +62,7 @@ make k i (Number.Refused p) = a_place
 one : (k : Numbered) (ws : List Placed) → NumberedWords (one_number k ws)
 unfolding one_number
 one k [] = a_place
-one k (w ∷ []) = make k w.start (read_number_lem w.bytes)
+one k (w ∷ []) = make k w.start (read_number w.bytes)
 one k (w ∷ v ∷ ws) = a_place
 
 move_numbered : (ws : List Placed) → NumberedWords (read_move ws)
@@ -90,14 +90,14 @@ set_numbered (w ∷ ws) = set_of_numbered (read_setting w.bytes) ws
 
 store_numbered : (i : ℕ) (r : NumberRead) (v : Placed) → NumberedWords (store_at i r v)
 store_numbered i (Number.Refused p) v = a_place
-store_numbered i (Number.Value n) v = make (With.StoreAt n) v.start (read_number_lem v.bytes)
+store_numbered i (Number.Value n) v = make (With.StoreAt n) v.start (read_number v.bytes)
 
 storepos_numbered : (ws : List Placed) → NumberedWords (read_storepos ws)
 unfolding read_storepos
 storepos_numbered [] = a_place
-storepos_numbered (w ∷ []) = make With.Store w.start (read_number_lem w.bytes)
+storepos_numbered (w ∷ []) = make With.Store w.start (read_number w.bytes)
 storepos_numbered (w ∷ v ∷ []) =
-    let n = read_number_lem w.bytes in
+    let n = read_number w.bytes in
     either NumberedWords (same v.bytes (text "current")) (make With.StoreCurrent w.start n) (store_numbered w.start n v)
 storepos_numbered (w ∷ v ∷ u ∷ ws) = a_place
 

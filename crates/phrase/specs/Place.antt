@@ -5,7 +5,7 @@ use Rattle.std.specs.Int.{w64}
 use Rattle.std.proofs.Common.{Fits}
 use Rattle.laws.specs.Text.{text, same}
 use Rattle.laws.specs.Refusals.{NOWHERE, in_byte}
-use Rattle.numbers.specs.Reading.{read_number_lem}
+use Rattle.numbers.specs.Reading.{read_number}
 use Rattle.numbers.specs.declared.NumberRead.{NumberRead}
 use Rattle.numbers.specs.declared.NumberRead.TheVariants as Number
 use Rattle.words.specs.Cutting.{Placed}
@@ -39,7 +39,7 @@ first_refused [] ws = NOWHERE
 first_refused (p ∷ ps) [] = NOWHERE
 first_refused (p ∷ ps) (w ∷ ws) =
     let next = first_refused ps ws in
-    cond (number_due p w.bytes) (or_else w.start (read_number_lem w.bytes) next) next
+    cond (number_due p w.bytes) (or_else w.start (read_number w.bytes) next) next
 
 -- all words of a row
 abbrev pub places : Row → List Place

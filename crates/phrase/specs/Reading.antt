@@ -6,7 +6,7 @@ use Rattle.laws.specs.Text.{text, same}
 use Rattle.laws.specs.Refusals.{BADCOMMAND, BADDATA, NOWHERE, in_byte}
 use Rattle.units.specs.Units.{position, speed}
 use Rattle.units.specs.declared.Number.{Number}
-use Rattle.numbers.specs.Reading.{read_number_lem}
+use Rattle.numbers.specs.Reading.{read_number}
 use Rattle.numbers.specs.declared.NumberRead.{NumberRead}
 use Rattle.numbers.specs.declared.NumberRead.TheVariants as Number
 use Rattle.words.specs.Cutting.{Placed, behind}
@@ -59,7 +59,7 @@ made k i (Number.Refused p) = Refused BADDATA (in_byte (i + p))
 -- a row whose last word is its number: one word is left, and it is a number
 unfoldable pub one_number : Numbered → List Placed → WordsRead
 one_number k [] = misspelt
-one_number k (w ∷ []) = made k w.start (read_number_lem w.bytes)
+one_number k (w ∷ []) = made k w.start (read_number w.bytes)
 one_number k (w ∷ v ∷ ws) = misspelt
 
 -- behind `move`
@@ -117,13 +117,13 @@ read_set (w ∷ ws) = set_of (read_setting w.bytes) ws
 -- behind `tools storepos`: N; N P; N current
 abbrev pub store_at : ℕ → NumberRead → Placed → WordsRead
 store_at i (Number.Refused p) v = Refused BADDATA (in_byte (i + p))
-store_at i (Number.Value n) v = made (With.StoreAt n) v.start (read_number_lem v.bytes)
+store_at i (Number.Value n) v = made (With.StoreAt n) v.start (read_number v.bytes)
 
 unfoldable pub read_storepos : List Placed → WordsRead
 read_storepos [] = misspelt
-read_storepos (w ∷ []) = made With.Store w.start (read_number_lem w.bytes)
+read_storepos (w ∷ []) = made With.Store w.start (read_number w.bytes)
 read_storepos (w ∷ v ∷ []) =
-    let n = read_number_lem w.bytes in
+    let n = read_number w.bytes in
     cond (same v.bytes (text "current")) (made With.StoreCurrent w.start n) (store_at w.start n v)
 read_storepos (w ∷ v ∷ u ∷ ws) = misspelt
 

@@ -4,7 +4,7 @@ use Rattle.std.specs.Prelude.{Bool, true, false, not, ◌&&◌, ◌||◌, List, 
 use Rattle.laws.specs.Lists.{any}
 use Rattle.laws.specs.Text.{same}
 use Rattle.laws.specs.Refusals.{◌when◌, first_of, BADCOMMAND, BADDATA}
-use Rattle.numbers.specs.Reading.{read_number_lem}
+use Rattle.numbers.specs.Reading.{read_number}
 use Rattle.numbers.specs.declared.NumberRead.{NumberRead}
 use Rattle.numbers.specs.declared.NumberRead.TheVariants as Number
 use Rattle.command.specs.Settings.{read_only}
@@ -32,8 +32,8 @@ abbrev pub stands : Place → List ℕ → Bool
 stands (word v) w = same w v
 stands SETTING w = is_setting (read_setting w)
 stands WRITABLE w = is_writable (read_setting w)
-stands N w = is_number (read_number_lem w)
-stands P w = is_number (read_number_lem w)
+stands N w = is_number (read_number w)
+stands P w = is_number (read_number w)
 
 -- whether words begin so, and whether they are just so
 unfoldable pub begin_so : List Place → List (List ℕ) → Bool

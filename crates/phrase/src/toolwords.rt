@@ -1,7 +1,7 @@
 // Reads the words behind `tools`.
 // The rules are in specs/Reading.antt.
 ghost use Rattle.std.specs.Prelude.{◌≡◌};
-ghost use Rattle.numbers.specs.Reading.{read_number_lem as number_in};
+ghost use Rattle.numbers.specs.Reading.{read_number as number_in};
 ghost use Rattle.words.specs.Cutting.{placed, words_at};
 ghost use Rattle.words.specs.Find.{meaning_of};
 ghost use Rattle.phrase.specs.Place.{Places};

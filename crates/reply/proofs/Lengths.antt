@@ -14,7 +14,7 @@ use Rattle.laws.proofs.Bools.{clash}
 use Rattle.laws.proofs.Each.{Each, none, more}
 use Rattle.laws.proofs.Spaced.{trail, spaced_trail}
 use Rattle.units.specs.declared.Number.{Number}
-use Rattle.numbers.specs.Decimal.{decimal, two_digits_lem}
+use Rattle.numbers.specs.Decimal.{decimal, two_digits}
 use Rattle.words.specs.Cutting.{begins, grow, cut}
 use Rattle.words.proofs.Space.{other_yes, other_not}
 use Rattle.words.proofs.Cut.{cut_none, cut_space, cut_inside, cut_alone}
@@ -54,7 +54,7 @@ unfolding warning_names text
 names_two = more refl (more refl (more refl (more refl (more refl (more refl (more refl (more refl none)))))))
 
 pub list_length : (m : ℕ) → length (warning_list m) ≤ 26
-unfolding two_digits_lem bits
+unfolding two_digits bits
 list_length m = rw (list_split m, length-append) (omega (arith, named_trail (bits 8 m) names_two))
 
 -- ---- the words of an echo: no longer with single spaces than they stand in a text

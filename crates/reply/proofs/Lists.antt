@@ -13,7 +13,7 @@ use borrow.Author.Tests.{eq-eqb, ne_eqb}
 use Rattle.laws.specs.Text.{space, text, spaced}
 use Rattle.laws.proofs.Spaced.{trail, spaced_trail, trail_append}
 use Rattle.units.specs.declared.Number.{Number}
-use Rattle.numbers.specs.Decimal.{decimal, two_digits_lem}
+use Rattle.numbers.specs.Decimal.{decimal, two_digits}
 use Rattle.flags.specs.Flags.{bits, named, count, warning_names}
 use Rattle.flags.proofs.Names.{warnings_number}
 use Rattle.buffer.specs.Wrote.{Wrote}
@@ -42,7 +42,7 @@ values_next (n ∷ ns) x h =
     rw (spaced_trail w ws, map-append, spaced_trail w (ws ++ (v ∷ [])), trail_append) (simp (append_assoc, append-nil))
 
 -- ---- the list of warnings
-pub list_split : (m : ℕ) → warning_list m ≡ two_digits_lem (count (bits 8 m)) ++ trail (named (bits 8 m) warning_names)
+pub list_split : (m : ℕ) → warning_list m ≡ two_digits (count (bits 8 m)) ++ trail (named (bits 8 m) warning_names)
 unfolding warning_list warnings_in
 list_split m = rw (warnings_number m) (spaced_trail _ _)
 

@@ -10,7 +10,7 @@ use lib.ListN.{length, take, drop, length-append}
 use Rattle.laws.specs.Text.{text, spaced}
 use Rattle.laws.proofs.Spaced.{trail}
 use Rattle.numbers.specs.Checksum.{sum_text}
-use Rattle.numbers.specs.Decimal.{last_digit, digits, two_digits_lem, hex_pair}
+use Rattle.numbers.specs.Decimal.{last_digit, digits, two_digits, hex_pair}
 use Rattle.numbers.proofs.Decimal.{digits_one}
 use Rattle.buffer.specs.Wrote.{Wrote}
 use Rattle.buffer.proofs.Wrote.{◌▸◌, wrote_read}
@@ -73,7 +73,7 @@ one_digit axis h = rw (digits_one axis h)
 
 -- two digits, a space and a digit stand before what a kind of message has
 front_four : (address axis : ℕ) → axis < 10 → length (body_of address axis []) ≡ 4
-unfolding two_digits_lem spaced
+unfolding two_digits spaced
 front_four address axis h = simp length-append (omega (arith, one_digit axis h))
 
 front_length : (address axis : ℕ) (ws : List (List ℕ)) → axis < 10 → length (body_of address axis ws) ≡ 4 + length (trail ws)

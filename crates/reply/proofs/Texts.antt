@@ -13,7 +13,7 @@ use Rattle.laws.specs.Text.{space, text, spaced}
 use Rattle.laws.proofs.Order.{lt_or_le}
 use Rattle.laws.proofs.Spaced.{trail, spaced_trail, trail_append}
 use Rattle.numbers.specs.Checksum.{checksum, sum_text}
-use Rattle.numbers.specs.Decimal.{digits, two_digits_lem, hex_pair}
+use Rattle.numbers.specs.Decimal.{digits, two_digits, hex_pair}
 use Rattle.flags.specs.Flags.{bits, first}
 use Rattle.flags.proofs.Names.{warnings_highest}
 use Rattle.reply.specs.Data.{warnings_in}
@@ -49,13 +49,13 @@ state_is busy m = rw (status_is busy) (simp (append_assoc, append-nil))
 -- the words that a kind of message has behind the axis: each behind a space
 pub body_front : (address axis : ℕ) (ws : List (List ℕ)) → body_of address axis [] ++ trail ws ≡ body_of address axis ws
 body_front address axis ws =
-    rw (spaced_trail (two_digits_lem address) (digits axis ∷ []), spaced_trail (two_digits_lem address) (digits axis ∷ ws))
-    (append_assoc (two_digits_lem address) (trail (digits axis ∷ [])) (trail ws)
-    ∙ ap (λ (l : List ℕ). two_digits_lem address ++ l) (sym (trail_append (digits axis ∷ []) ws)))
+    rw (spaced_trail (two_digits address) (digits axis ∷ []), spaced_trail (two_digits address) (digits axis ∷ ws))
+    (append_assoc (two_digits address) (trail (digits axis ∷ [])) (trail ws)
+    ∙ ap (λ (l : List ℕ). two_digits address ++ l) (sym (trail_append (digits axis ∷ []) ws)))
 
-pub front_is : (address axis : ℕ) → two_digits_lem address ++ (space ∷ []) ++ digits axis ≡ body_of address axis []
+pub front_is : (address axis : ℕ) → two_digits address ++ (space ∷ []) ++ digits axis ≡ body_of address axis []
 unfolding spaced
-front_is address axis = append_assoc (two_digits_lem address) (space ∷ []) (digits axis)
+front_is address axis = append_assoc (two_digits address) (space ∷ []) (digits axis)
 
 trails : (s : List ℕ) (vs ws : List (List ℕ)) → s ++ trail vs ++ trail ws ≡ s ++ trail (vs ++ ws)
 trails s vs ws = append_assoc s (trail vs) (trail ws) ∙ ap (λ (l : List ℕ). s ++ l) (sym (trail_append vs ws))

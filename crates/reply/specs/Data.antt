@@ -5,7 +5,7 @@ use Prim.Native.String.{String}
 use Rattle.laws.specs.Text.{text, spaced}
 use Rattle.laws.specs.Refusals.{BADCOMMAND, BADDATA, BADAXIS, DEVICEONLY, NOACCESS, PARKED, STATUSBUSY}
 use Rattle.units.specs.declared.Number.{Number}
-use Rattle.numbers.specs.Decimal.{decimal, two_digits_lem}
+use Rattle.numbers.specs.Decimal.{decimal, two_digits}
 use Rattle.flags.specs.Flags.{bits, named, warning_names}
 
 -- "Values for axis 0 are listed from axis 1, parted by one space."
@@ -18,7 +18,7 @@ warnings_in m = named (bits 8 m) warning_names
 
 -- "The list is the number of active warnings in two digits, then their names, highest first"
 unfoldable pub warning_list : ℕ → List ℕ
-warning_list m = spaced (two_digits_lem (length (warnings_in m)) ∷ warnings_in m)
+warning_list m = spaced (two_digits (length (warnings_in m)) ∷ warnings_in m)
 
 -- "first 17 words, single spaces; 0 if none"
 abbrev pub echoed_words : ℕ

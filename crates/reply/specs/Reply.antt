@@ -4,7 +4,7 @@ use Rattle.std.specs.Prelude.{Bool, cond, List, [], ◌∷◌, ◌++◌, ℕ, ge
 use Rattle.laws.specs.Lists.{fold}
 use Rattle.laws.specs.Text.{text, spaced}
 use Rattle.numbers.specs.Checksum.{sum_text}
-use Rattle.numbers.specs.Decimal.{digits, two_digits_lem}
+use Rattle.numbers.specs.Decimal.{digits, two_digits}
 use Rattle.reply.specs.Data.{warnings_in}
 use Rattle.reply.specs.declared.Head.{Head}
 
@@ -28,7 +28,7 @@ ending sum s = sum_text sum s ++ text "\r\n"
 
 -- what is summed of a message: address, axis, and the words ws that its kind has behind them
 abbrev pub body_of : ℕ → ℕ → List (List ℕ) → List ℕ
-body_of address axis ws = spaced (two_digits_lem address ∷ digits axis ∷ ws)
+body_of address axis ws = spaced (two_digits address ∷ digits axis ∷ ws)
 
 -- its mark; that, "summed from after the `@`"; and its end
 abbrev pub message : List ℕ → List ℕ → Bool → List ℕ

@@ -23,15 +23,15 @@ unfoldable pub carried : List ℕ → ℕ → ℕ → List ℕ
 carried l from end = drop from (take end l)
 
 -- the text of what is told; the words of an echo stand in the line l
-abbrev pub told_text_lem : List ℕ → Told → List ℕ
-told_text_lem l Nought = text "0"
-told_text_lem l (One n) = decimal n.0
-told_text_lem l (Values v) = values (listed_of v)
-told_text_lem l (Active m) = warning_list m
-told_text_lem l (Parked p) = cond p (text "1") (text "0")
-told_text_lem l (Words from end) = echoed (cut (carried l from end))
-told_text_lem l (Name n) = refusal_name n
-told_text_lem l Info = text "0"
+abbrev pub told_text : List ℕ → Told → List ℕ
+told_text l Nought = text "0"
+told_text l (One n) = decimal n.0
+told_text l (Values v) = values (listed_of v)
+told_text l (Active m) = warning_list m
+told_text l (Parked p) = cond p (text "1") (text "0")
+told_text l (Words from end) = echoed (cut (carried l from end))
+told_text l (Name n) = refusal_name n
+told_text l Info = text "0"
 
 -- order 5: whether info lines stand behind the reply
 abbrev pub informs : Told → Bool

@@ -3,7 +3,7 @@
 ghost use Rattle.std.specs.Prelude.{◌≡◌, get_or};
 ghost use Rattle.buffer.specs.Wrote.{Wrote};
 ghost use Rattle.reply.specs.Data.{values};
-ghost use Rattle.reply.specs.Told.{four_of, listed_of, carried as carried_of, told_text_lem, informs as informsOf};
+ghost use Rattle.reply.specs.Told.{four_of, listed_of, carried as carried_of, told_text, informs as informsOf};
 
 use crate::data::{put_echo, put_refusal, put_warnings};
 use buffer::{put_byte, put_signed};
@@ -85,7 +85,7 @@ fn carried(line: &[u8], from: usize, end: usize) -> &[u8]
 
 // What is told; the words of an echo stand in the line.
 pub fn put_told(buf: &mut [u8], at: usize, x: Told, line: &[u8]) -> usize
-    ensures { Wrote buf.old at (told_text_lem line.now x) buf.new result }
+    ensures { Wrote buf.old at (told_text line.now x) buf.new result }
 {
     match x {
         Told::Nought => put_byte(buf, at, b'0'),

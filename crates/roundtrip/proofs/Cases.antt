@@ -11,7 +11,7 @@ use Rattle.laws.specs.Refusals.{first_of}
 use Rattle.laws.specs.Text.{text, spaced}
 use Rattle.units.specs.Units.{position, number}
 use Rattle.numbers.specs.Checksum.{total, checksum, sum_text}
-use Rattle.numbers.specs.Decimal.{last_digit, digits_within, digits, decimal, two_digits_lem, hex_digit, hex_pair}
+use Rattle.numbers.specs.Decimal.{last_digit, digits_within, digits, decimal, two_digits, hex_digit, hex_pair}
 use Rattle.words.specs.Cutting.{is_space, no_space, grow_at, words_from, cut}
 use Rattle.command.specs.Settings.{name_of}
 use Rattle.command.specs.declared.AxisSetting.TheVariants.{Pos}
@@ -77,10 +77,10 @@ numbered o = o.answer.number
 
 pub number_cases : map (λ r. numbered (written r)) rows ≡ map (λ r. r.number) rows
 unfolding rows write_line writer_refusal first_of unspellable line_text line_end line_words spaced text fold data_byte name_of cut is_space no_space
-    grow_at words_from total checksum sum_text last_digit digits_within digits decimal two_digits_lem hex_digit hex_pair
+    grow_at words_from total checksum sum_text last_digit digits_within digits decimal two_digits hex_digit hex_pair
 number_cases = refl
 
 pub line_cases : map (λ r. take (written r).answer.length (written r).buffer) rows ≡ map (λ r. r.line) rows
 unfolding rows write_line writer_refusal first_of unspellable line_text line_end line_words spaced text fold data_byte name_of cut is_space no_space
-    grow_at words_from total checksum sum_text last_digit digits_within digits decimal two_digits_lem hex_digit hex_pair
+    grow_at words_from total checksum sum_text last_digit digits_within digits decimal two_digits hex_digit hex_pair
 line_cases = refl

@@ -12,7 +12,7 @@ use Rattle.laws.specs.Text.{text, spaced}
 use Rattle.laws.proofs.Each.{Each, none, more}
 use Rattle.laws.proofs.Spaced.{trail, spaced_trail}
 use Rattle.units.specs.declared.Number.{Number}
-use Rattle.numbers.specs.Decimal.{last_digit, digits_within, digits, decimal, two_digits_lem}
+use Rattle.numbers.specs.Decimal.{last_digit, digits_within, digits, decimal, two_digits}
 use Rattle.words.specs.Spelling.{WordByte, Word}
 use Rattle.flags.specs.Flags.{bits, named, warning_names}
 use Rattle.reply.specs.Data.{values, warnings_in, warning_list, echoed}
@@ -77,8 +77,8 @@ values_data [] h = absurd (omega arith)
 values_data (n ∷ ns) h = spaced_data (decimal_word n.0) (decimals_words ns)
 
 -- ---- the list of warnings
-two_word : (n : ℕ) → Word (two_digits_lem n)
-unfolding two_digits_lem
+two_word : (n : ℕ) → Word (two_digits n)
+unfolding two_digits
 two_word n = Word.more (figure_byte (n / 10)) (Word.one (figure_byte n))
 
 named_words : (fs : List Bool) {ns : List (List ℕ)} → Each Word ns → Each Word (named fs ns)

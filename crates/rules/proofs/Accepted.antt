@@ -19,11 +19,11 @@ use Rattle.axis.specs.Commands.{permits}
 use Rattle.device.specs.declared.Device.{Device}
 use Rattle.device.specs.Record.{axes_of}
 use Rattle.device.specs.Good.{good}
-use Rattle.rules.specs.Refusals.{bad_axis, device_only, no_access_lem, parked, status_busy, device_takes, bad_data, refusal}
+use Rattle.rules.specs.Refusals.{bad_axis, device_only, no_access, parked, status_busy, device_takes, bad_data, refusal}
 use Rattle.rules.specs.Reports.{is_axis, bad_report, report_refusal}
 
 module _ (d : Device) (k : ℕ) (c : Command) (e : refusal d k c ≡ 0) where
-  past_10 : first_of (12 when bad_axis d k ∷ 13 when device_only k c ∷ 14 when no_access_lem d (demands c) ∷ 15 when parked d (demands c)
+  past_10 : first_of (12 when bad_axis d k ∷ 13 when device_only k c ∷ 14 when no_access d (demands c) ∷ 15 when parked d (demands c)
       ∷ 16 when status_busy d k (demands c) ∷ 11 when bad_data d k c ∷ []) ≡ 0
   unfolding refusal
   past_10 = below 9 (demands c).barred _ e
@@ -35,7 +35,7 @@ module _ (d : Device) (k : ℕ) (c : Command) (e : refusal d k c ≡ 0) where
   in_scope = unmet 12 (device_only k c) _ (below 11 (bad_axis d k) _ past_10)
 
   past_14 : first_of (15 when parked d (demands c) ∷ 16 when status_busy d k (demands c) ∷ 11 when bad_data d k c ∷ []) ≡ 0
-  past_14 = below 13 (no_access_lem d (demands c)) _ (below 12 (device_only k c) _ (below 11 (bad_axis d k) _ past_10))
+  past_14 = below 13 (no_access d (demands c)) _ (below 12 (device_only k c) _ (below 11 (bad_axis d k) _ past_10))
 
   pub not_parked : parked d (demands c) ≡ false
   not_parked = unmet 14 (parked d (demands c)) _ past_14

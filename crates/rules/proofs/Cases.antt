@@ -23,7 +23,7 @@ use Rattle.axis.specs.RaisedWarnings.{raise, raised}
 use Rattle.device.specs.declared.Device.{Device}
 use Rattle.device.specs.Record.{many, axes_of, on_axes, fresh}
 use Rattle.device.specs.Good.{good}
-use Rattle.rules.specs.Refusals.{bad_axis, device_only, no_access_lem, parked, status_busy, bad_data, refusal}
+use Rattle.rules.specs.Refusals.{bad_axis, device_only, no_access, parked, status_busy, bad_data, refusal}
 use Rattle.rules.specs.Effects.{next, obey}
 use Rattle.rules.specs.Reports.{is_axis, bad_report, report_refusal, report}
 
@@ -96,7 +96,7 @@ cases =
     ∷ []
 
 all_cases : map (λ (c : Case). (obey c.device c.axis c.command).number) cases ≡ map (λ (c : Case). c.number) cases
-unfolding cases new bare told homed homing in_park obey refusal first_of bad_axis device_only no_access_lem parked status_busy bad_data next on_axes
+unfolding cases new bare told homed homing in_park obey refusal first_of bad_axis device_only no_access parked status_busy bad_data next on_axes
     axes_of
     many fold change_from change_first may_move_to may_run_at may_store stored moved store stopped fresh fresh_axis fresh_settings good good_axis
     axis_settings device_settings report report_of report_refusal bad_report is_axis raise raised
@@ -135,7 +135,7 @@ abbrev answer : Reported → ℕ
 answer c = (report c.device (number (pos c.axis)) (report_of (number (pos c.kind)) (number c.last))).number
 
 all_reports : map answer motor_reports ≡ map (λ (c : Reported). c.number) motor_reports
-unfolding motor_reports new homing obey refusal first_of bad_axis device_only no_access_lem parked status_busy bad_data next on_axes axes_of many fold
+unfolding motor_reports new homing obey refusal first_of bad_axis device_only no_access parked status_busy bad_data next on_axes axes_of many fold
     change_from change_first stopped fresh fresh_axis fresh_settings good good_axis axis_settings device_settings report report_of report_refusal
     bad_report is_axis raise raised
 all_reports = refl

@@ -16,7 +16,7 @@ use Rattle.axis.specs.Commands.{permits}
 use Rattle.device.specs.declared.Device.{Device}
 use Rattle.device.specs.Record.{with_parked, axes_of, on_axes}
 use Rattle.device.specs.Good.{good}
-use Rattle.rules.specs.Refusals.{bad_axis, device_only, no_access_lem, parked, status_busy, bad_data, refusal}
+use Rattle.rules.specs.Refusals.{bad_axis, device_only, no_access, parked, status_busy, bad_data, refusal}
 use Rattle.rules.specs.Effects.{next, obey}
 use Rattle.rules.proofs.OutsideRefused.{enough_access}
 use Rattle.rules.proofs.RefusalKeeps.{accepted_next}
@@ -32,11 +32,11 @@ module _ (d : Device) (k : ℕ) where
 
   -- the rows of the table that home can meet: "PARKED no longer given for home"
   pub home_meets : (obey d k (OfAxes Home)).number
-      ≡ first_of (BADAXIS when bad_axis d k ∷ NOACCESS when no_access_lem d (demands (OfAxes Home)) ∷ [])
+      ≡ first_of (BADAXIS when bad_axis d k ∷ NOACCESS when no_access d (demands (OfAxes Home)) ∷ [])
   unfolding obey refusal first_of device_only parked status_busy bad_data
   home_meets = rw (and_false d.parked, all_alike (permits Home) (λ a. refl) (axes_of d k)) refl
 
   -- a good record has the access that it takes: parked or not, it is accepted for each axis that there is
   pub home_taken : good d ≡ true → bad_axis d k ≡ false → (obey d k (OfAxes Home)).number ≡ 0
-  unfolding first_of no_access_lem
+  unfolding first_of no_access
   home_taken g h = rw (home_meets, h, enough_access d g) refl

@@ -30,7 +30,7 @@ use Rattle.axis.proofs.MoveDemands.{move_demands}
 use Rattle.device.specs.declared.Device.{Device}
 use Rattle.device.specs.Record.{axes_of}
 use Rattle.device.specs.Good.{in_range, good}
-use Rattle.rules.specs.Refusals.{bad_axis, device_only, no_access_lem, parked, status_busy, bad_data, rows, refusal}
+use Rattle.rules.specs.Refusals.{bad_axis, device_only, no_access, parked, status_busy, bad_data, rows, refusal}
 use Rattle.rules.specs.Effects.{obey}
 use Rattle.rules.proofs.Accepted.{each_permits}
 use Rattle.rules.proofs.RefusalKeeps.{refusal_keeps}
@@ -80,7 +80,7 @@ enough_access d g =
 -- the earlier checks that a move can meet are 12 BADAXIS and 15 PARKED
 pub outside_11 : (d : Device) (k : ℕ) (t : Target) → good d ≡ true → bad_axis d k ≡ false → d.parked ≡ false
     → inside t (axes_of d k) ≡ false → (obey d k (OfAxes (MoveTo t))).number ≡ 11
-unfolding obey refusal first_of device_only no_access_lem parked status_busy bad_data
+unfolding obey refusal first_of device_only no_access parked status_busy bad_data
 outside_11 d k t g a p out = go (demands (OfAxes (MoveTo t))) (move_demands t)
   where
     go : (x : Demands) → x ≡ demands (OfAxes (MoveTo Min)) → first_of (rows d k (OfAxes (MoveTo t)) x) ≡ 11

@@ -27,8 +27,8 @@ device_only k (OfAxes c) = false
 device_only k (OfDevice c) = not (eqb k 0)
 
 -- "access too low"
-unfoldable pub no_access_lem : Device → Demands → Bool
-no_access_lem d x = ltb (place d.access.0) x.access
+unfoldable pub no_access : Device → Demands → Bool
+no_access d x = ltb (place d.access.0) x.access
 
 -- "On a parked device home, move, stop and estop are rejected." 02, order 4: "PARKED no longer given for home."
 unfoldable pub parked : Device → Demands → Bool
@@ -60,7 +60,7 @@ standing_rows d k c x =
     BADCOMMAND when x.barred
     ∷ BADAXIS when bad_axis d k
     ∷ DEVICEONLY when device_only k c
-    ∷ NOACCESS when no_access_lem d x
+    ∷ NOACCESS when no_access d x
     ∷ PARKED when parked d x
     ∷ STATUSBUSY when status_busy d k x
     ∷ []

@@ -3,7 +3,7 @@
 ghost use Rattle.std.specs.Prelude.{◌≡◌};
 ghost use Rattle.laws.specs.Refusals.{first_of};
 ghost use Rattle.command.specs.Commands.{demands};
-ghost use Rattle.rules.specs.Refusals.{bad_axis, device_only, no_access_lem, parked as parkedFor, status_busy, device_takes, bad_data};
+ghost use Rattle.rules.specs.Refusals.{bad_axis, device_only, no_access, parked as parkedFor, status_busy, device_takes, bad_data};
 ghost use Rattle.rules.specs.Refusals.{standing_rows, rows, ruled};
 
 use command::kinds::Demands;
@@ -40,7 +40,7 @@ fn device_only(k: u64, c: Command) -> bool
 
 // 14 NOACCESS: access too low.
 fn no_access(d: Device, x: Demands) -> bool
-    ensures { result ≡ no_access_lem d x }
+    ensures { result ≡ no_access d x }
 {
     let a = d.access.place();
     a < x.access as usize

@@ -11,7 +11,7 @@ use Rattle.laws.specs.Refusals.{TOOLONG, NOWHERE}
 use borrow.Author.Tests.{lt-ltb}
 use Rattle.line.specs.declared.LineRead.TheVariants.{Silent}
 use Rattle.line.specs.Reading.{read_line}
-use Rattle.line.proofs.Frames.{too_long}
+use Rattle.line.proofs.Frames.{too_long_lem}
 use Rattle.input.specs.declared.reports.ReportRead.TheVariants.{Misspelt}
 use Rattle.input.specs.ReportLines.{read_report}
 use Rattle.input.specs.Prints.{is_report}
@@ -23,7 +23,7 @@ use Rattle.session.specs.Bench.{line_turn, turn, shown}
 
 long_line : (l : List ℕ) → 80 < length l → read_line l ≡ Silent TOOLONG NOWHERE
 unfolding read_line
-long_line l h = simp (too_long l h)
+long_line l h = simp (too_long_lem l h)
 
 -- whatever the line, 2 is answered alike
 long_step : (d : Device) (l m b : List ℕ) → 80 < length l → 80 < length m → step d l b ≡ step d m b

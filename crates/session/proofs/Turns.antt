@@ -16,7 +16,7 @@ use Rattle.carriage.specs.Step.{Gives, step, refused_at}
 use Rattle.input.specs.declared.reports.ReportRead.{ReportRead}
 use Rattle.input.specs.ReportLines.{read_report}
 use Rattle.session.specs.declared.Turned.{Turned}
-use Rattle.input.specs.Parts.{parts, first_part_lem}
+use Rattle.input.specs.Parts.{parts, first_part}
 use Rattle.input.specs.Prints.{is_report, reported, answered, caret}
 use Rattle.input.proofs.Parted.{part_inside, part_first}
 use Rattle.input.proofs.Prints.{first_bytes}
@@ -71,7 +71,7 @@ pub running_first : (first : Device) (s b : List ℕ) → Running first s b firs
 running_first first s b = record { printed = []; wrote = wrote_none b 0; whole = refl; inside = omega arith }
 
 module _ {first : Device} {s b : List ℕ} {d : Device} {o : List ℕ} {place at : ℕ} (h : Running first s b d o place at) where
-  pub running_more : {e : ℕ} {r : Turned} {c : List ℕ} → at < length s → e ≡ at + first_part_lem (drop at s)
+  pub running_more : {e : ℕ} {r : Turned} {c : List ℕ} → at < length s → e ≡ at + first_part (drop at s)
       → Took (turn d (take (e - at) (drop at s))) o place r c
       → Running first s b r.next c r.place e
   unfolding turns

@@ -23,7 +23,7 @@ use Rattle.device.specs.Record.{many, axes_of}
 use Rattle.device.proofs.Stretches.{stretch_axes}
 use Rattle.reply.specs.Data.{values}
 use Rattle.reply.specs.declared.told.Listed.{Listed}
-use Rattle.reply.specs.Told.{four_of, listed_of, carried, told_text_lem, informs}
+use Rattle.reply.specs.Told.{four_of, listed_of, carried, told_text, informs}
 use Rattle.view.specs.View.{value_in, values_of, axis_at, listed_for}
 use Rattle.view.specs.Data.{setting_data, parked_data, text_of, setting_told, told_of}
 use Rattle.view.specs.declared.Value.{Value}
@@ -89,22 +89,22 @@ module _ (d : Device) (k : ℕ) (four : length d.axes ≡ 4) where
   listed_text : (v : Value) → values (listed_of (listed_for v d k)) ≡ values (values_of v d k)
   listed_text v = ap values (listed_values v)
 
-  setting_text : (l : List ℕ) (s : Setting) → told_text_lem l (setting_told d k s) ≡ setting_data d k s
+  setting_text : (l : List ℕ) (s : Setting) → told_text l (setting_told d k s) ≡ setting_data d k s
   setting_text l (OfAxis s) = listed_text (Value.Of s)
   setting_text l (OfDevice s) = refl
 
   -- the words of an echo stand in the line from a place to another
-  pub told_text : (l : List ℕ) (f : Form) (x : Data) (from end : ℕ)
-      → told_text_lem l (told_of d k f x from end) ≡ text_of d k (cut (carried l from end)) f x
+  pub told_text_lem : (l : List ℕ) (f : Form) (x : Data) (from end : ℕ)
+      → told_text l (told_of d k f x from end) ≡ text_of d k (cut (carried l from end)) f x
   unfolding parked_data
-  told_text l f Nought from end = refl
-  told_text l f Values from end = setting_text l f.setting
-  told_text l f Stored from end = listed_text (Value.Stored f.first)
-  told_text l f Position from end = listed_text Value.Pos
-  told_text l f Active from end = refl
-  told_text l f Parked from end = refl
-  told_text l f Words from end = refl
-  told_text l f Info from end = refl
+  told_text_lem l f Nought from end = refl
+  told_text_lem l f Values from end = setting_text l f.setting
+  told_text_lem l f Stored from end = listed_text (Value.Stored f.first)
+  told_text_lem l f Position from end = listed_text Value.Pos
+  told_text_lem l f Active from end = refl
+  told_text_lem l f Parked from end = refl
+  told_text_lem l f Words from end = refl
+  told_text_lem l f Info from end = refl
 
 -- info lines are told of where the data say so
 setting_informs : (d : Device) (k : ℕ) (s : Setting) → informs (setting_told d k s) ≡ false
