@@ -9,9 +9,3 @@ use Rattle.command.proofs.kinds.Data.informs.Goals as goal
 
 pub returns-in-Info : goal.returns-in-Info
 returns-in-Info c = search rules
-
-pub returns-in_default : goal.returns-in_default
-returns-in_default c =
-    arm enum is_info _ c.args.self _ c.in_default.keys2
-    (more (λ v. refl) (more (λ v. refl) (more (λ v. refl) (more (λ v. refl) (more (λ v. refl) (more (λ v. refl)
-    (more (λ v. refl) none)))))))

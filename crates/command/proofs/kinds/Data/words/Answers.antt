@@ -7,11 +7,5 @@ use Rattle.command.specs.contracts.kinds.Data.{enum}
 use borrow.Author.Rules.{rules}
 use Rattle.command.proofs.kinds.Data.words.Goals as goal
 
-pub returns-in-Nought : goal.returns-in-Nought
-returns-in-Nought c =
-    arm enum is_words _ c.args.self _ c.in-Nought.keys1
-    (more (λ v. refl) (more (λ v. refl) (more (λ v. refl) (more (λ v. refl) (more (λ v. refl) (more (λ v. refl)
-    (more (λ v. refl) none)))))))
-
 pub returns-in-Words : goal.returns-in-Words
 returns-in-Words c = search rules
