@@ -1,0 +1,18 @@
+-- Invariant: the first i bytes of the text are written, and the next one goes to `next`.
+use Prim.Native.Nat.{◌-◌}
+use native.Mathlib.Omega.{arith}
+use borrow.Author.Rules.{rules}
+use lib.Seq.{take_all}
+use Rattle.buffer.proofs.Wrote.{wrote_none, wrote_more, wrote_length}
+use Rattle.buffer.proofs.put_front.Goals as goal
+
+-- SETTLED? need same-length
+-- same_length : tie.Need-same-length invariant-loop decreases-loop
+-- same_length c = wrote_length c.before.loop.invariant.1
+
+pub loop-i-init : goal.loop-i-init
+loop-i-init c = (search rules, wrote_none _ _)
+
+pub returns : goal.returns
+returns c =
+    rw (take_all c.loop-i.i c.args.text.now (search rules)) at c.loop-i.invariant.1

@@ -1,0 +1,11 @@
+-- Invariant: the first i bytes of the text are written, and the next one goes i places behind `at`.
+use Prim.Native.Nat.{◌≤◌, ◌+◌, ◌-◌}
+use lib.ListN.{length, take}
+use Rattle.buffer.specs.Wrote.{Wrote}
+use Rattle.buffer.proofs.put_whole.Given as goal
+
+abbrev pub invariant-loop-i : goal.invariant-loop-i
+invariant-loop-i l = (l.i ≤ length l.text) × Wrote l.initial.buf l.at (take l.i l.text) l.buf (l.at + l.i)
+
+abbrev pub decreases-loop-i : goal.decreases-loop-i
+decreases-loop-i l = length l.text - l.i
