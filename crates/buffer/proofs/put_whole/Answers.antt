@@ -20,3 +20,7 @@ bounds-buf-at c =
 pub returns : goal.returns
 returns c =
     rw (take_all c.loop-i.i c.args.text.now (search rules)) at c.loop-i.invariant.1
+
+pub loop-i-preserved : goal.loop-i-preserved
+loop-i-preserved c =
+    (search rules, wrote_next _ c.loop-i.i c.loop-i-test.true (omega (arith, c.loop-i-test.true, wrote_length c.loop-i.invariant.1, c.requires)) c.loop-i.invariant.1)
