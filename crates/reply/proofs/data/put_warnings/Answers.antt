@@ -1,0 +1,26 @@
+-- `reply::data::put_warnings` meets its contract. Invariant: what the loop has written, with the names that are left, is the whole.
+use mathlib.Core.Logic.{⊎_elim}
+use Prim.Native.Nat.{◌-◌}
+use native.Mathlib.Omega.{arith}
+use Rattle.buffer.proofs.Wrote.{◌▸◌, wrote_length}
+use Rattle.reply.proofs.Writing.{writing_first, writing_end}
+use Rattle.reply.proofs.Lists.{list_split, names_yes, names_no, names_end}
+use Rattle.reply.proofs.data.put_warnings.Goals as goal
+
+-- SETTLED? need same-length
+-- same_length : tie.Need-same-length invariant-loop decreases-loop
+-- same_length c = wrote_length (returns c)
+
+pub loop-i-init : goal.loop-i-init
+loop-i-init c = (omega arith, writing_first _ _ _)
+
+pub overflow_add-i : goal.overflow_add-i
+overflow_add-i c = omega arith
+
+pub loop-i-smaller : goal.loop-i-smaller
+loop-i-smaller c = omega arith
+
+pub returns : goal.returns
+returns c =
+    rw (list_split _, ← c.number.ensures)
+    (c.put_two-next.ensures ▸ writing_end (rw (names_end _ _ c.loop-i-test.false) at c.loop-i.invariant.1))

@@ -1,0 +1,32 @@
+-- `reply::told::put_listed` meets its contract. Invariant: the first n of the values that are listed are written.
+use mathlib.Core.Logic.{⊎_elim}
+use Prim.Native.Nat.{◌-◌}
+use native.Mathlib.Omega.{arith}
+use Rattle.buffer.proofs.Wrote.{wrote_length}
+use Rattle.reply.proofs.Telling.{listed_start, listed_first, listed_next, listed_end}
+use Rattle.reply.proofs.told.put_listed.Goals as goal
+
+-- SETTLED? need same-length
+-- same_length : tie.Need-same-length invariant-loop decreases-loop
+-- same_length c = wrote_length c.before.loop.invariant
+
+pub overflow_sub-from : goal.overflow_sub-from
+overflow_sub-from c = omega (arith, c.lesser-from.ensures)
+
+pub loop-n-init : goal.loop-n-init
+loop-n-init c = listed_start _ _
+
+pub overflow_add-from : goal.overflow_add-from
+overflow_add-from c =
+    omega (arith, c.loop-n-test.true, c.lesser-many.ensures, c.lesser-from.ensures)
+
+pub overflow_add-n : goal.overflow_add-n
+overflow_add-n c = omega (arith, c.loop-n-test.true)
+
+pub loop-n-smaller : goal.loop-n-smaller
+loop-n-smaller c = omega (arith, c.loop-n-test.true)
+
+pub returns : goal.returns
+returns c =
+    let v = c.args.v in
+    rw (← listed_end v _ _ c.lesser-from.ensures c.lesser-many.ensures c.loop-n.n c.loop-n-test.false) c.loop-n.invariant
