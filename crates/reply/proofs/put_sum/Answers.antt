@@ -6,3 +6,8 @@ use Rattle.reply.proofs.put_sum.Goals as goal
 
 pub returns-else-wanted : goal.returns-else-wanted
 returns-else-wanted c = rw (sum_unwanted _ _ c.if-wanted.false) (wrote_none _ _)
+
+pub returns-then-wanted : goal.returns-then-wanted
+unfolding text
+returns-then-wanted c =
+    rw (sum_wanted _ _ c.if-wanted.true, ← c.summed-c.ensures) (c.put_byte-colon.ensures ▸ c.put_pair.ensures)

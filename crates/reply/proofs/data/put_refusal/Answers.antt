@@ -1,4 +1,5 @@
 -- `reply::data::put_refusal` meets its contract: the name of each number, or nothing.
+use native.Mathlib.Omega.{arith}
 use Rattle.laws.specs.Text.{text}
 use Rattle.buffer.proofs.Wrote.{wrote_none}
 use Rattle.reply.specs.Data.{refusals, name_in, refusal_name}
@@ -32,3 +33,9 @@ returns-in-15 c = rw c.in-15.is c.put_text-in-15.ensures
 pub returns-in-16 : goal.returns-in-16
 unfolding refusal_name refusals name_in text
 returns-in-16 c = rw c.in-16.is c.put_text-in-16.ensures
+
+pub returns-in_default : goal.returns-in_default
+returns-in_default c = 
+    rw (refusal_none c.args.number (λ h. omega (arith, h)) (λ h. omega (arith, h)) (λ h. omega (arith, h)) (λ h. omega (arith, h))
+    (λ h. omega (arith, h)) (λ h. omega (arith, h)) (λ h. omega (arith, h)))
+    (wrote_none _ _)

@@ -6,6 +6,7 @@ use Rattle.buffer.proofs.Wrote.{◌▸◌, wrote_length}
 use Rattle.reply.proofs.Writing.{writing_first, writing_end}
 use Rattle.reply.proofs.Lists.{list_split, names_yes, names_no, names_end}
 use Rattle.reply.proofs.data.put_warnings.Goals as goal
+use Rattle.reply.proofs.data.put_warnings.Goals.{then-left-eq1, else-left-eq1}
 
 -- SETTLED? need same-length
 -- same_length : tie.Need-same-length invariant-loop decreases-loop
@@ -24,3 +25,14 @@ pub returns : goal.returns
 returns c =
     rw (list_split _, ← c.number.ensures)
     (c.put_two-next.ensures ▸ writing_end (rw (names_end _ _ c.loop-i-test.false) at c.loop-i.invariant.1))
+
+pub loop-i-preserved : goal.loop-i-preserved
+loop-i-preserved c =
+    let l = c.loop-i in
+    let i = c.loop-i-test.true in (
+      omega arith,
+      elim c.if-left-eq1.branch [
+        then-left-eq1 w ↦
+          names_yes _ _ i l.invariant.1 w.if-left-eq1.true (w.put_byte-next.ensures ▸ w.put_warning-next.ensures) w.buf-is w.next-is
+      | else-left-eq1 w ↦ names_no _ _ i l.invariant.1 w.if-left-eq1.false w.buf-is w.next-is ],
+    )

@@ -1,4 +1,5 @@
 -- Each text behind a space, or nothing beyond the last.
+use native.Mathlib.Omega.{arith}
 use Rattle.laws.specs.Text.{text}
 use Rattle.laws.proofs.Order.{beyond}
 use Rattle.laws.proofs.Spaced.{trail}
@@ -50,3 +51,7 @@ returns-in-9 c = rw c.in-9.is c.put_text-in-9.ensures
 pub returns-in-10 : goal.returns-in-10
 unfolding help_texts text trail
 returns-in-10 c = rw c.in-10.is c.put_text-in-10.ensures
+
+pub returns-in_default : goal.returns-in_default
+unfolding trail
+returns-in_default c = rw (← text_none c.args.place (omega arith)) (wrote_none _ _)

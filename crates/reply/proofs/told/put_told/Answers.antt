@@ -28,3 +28,6 @@ returns-in-Name c = rw c.in-Name.is c.put_refusal.ensures
 pub returns-in-Info : goal.returns-in-Info
 unfolding text
 returns-in-Info c = rw c.in-Info.is c.put_byte-in-Info.ensures
+
+pub returns-in-Parked : goal.returns-in-Parked
+returns-in-Parked c = rw (c.in-Parked.is, ← parked_is c.in-Parked.p) c.put_byte-in-Parked.ensures
