@@ -1,5 +1,5 @@
 -- Too long, empty, without its `/`, without a footer, or read between the two.
-use Rattle.line.proofs.Frames.{too_long, empty, no_slash}
+use Rattle.line.proofs.Frames.{too_long_lem, empty, no_slash}
 use Rattle.line.proofs.FromTheEnd.{footer_fits, footer_none, footer_some}
 use native.Mathlib.Omega.{arith}
 use mathlib.Core.Path.{sym}
@@ -38,3 +38,6 @@ pub returns : goal.returns
 returns c =
     footer_some _ c.if-s-gt-LONGEST_LINE.false c.if-s-ne47.false c.footer_size-f.ensures c.if-f-eq0.false
     c.read_body.ensures
+
+pub returns-then-s-gt-LONGEST_LINE : goal.returns-then-s-gt-LONGEST_LINE
+returns-then-s-gt-LONGEST_LINE c = sym (too_long_lem _ c.if-s-gt-LONGEST_LINE.true)

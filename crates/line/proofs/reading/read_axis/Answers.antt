@@ -6,3 +6,11 @@ use Rattle.line.proofs.reading.read_axis.Goals as goal
 pub overflow_add-i : goal.overflow_add-i
 overflow_add-i c =
     omega (arith, axis_there _ _ c.digit_at-d.ensures c.if-d-lt10.true)
+
+pub returns-then-d-lt10 : goal.returns-then-d-lt10
+returns-then-d-lt10 c =
+    with_axis _ _ c.start_of-i.ensures _ c.digit_at-d.ensures c.if-d-lt10.true c.read_command.ensures.read
+
+pub returns : goal.returns
+returns c =
+    without_axis _ _ c.start_of-i.ensures _ c.digit_at-d.ensures c.if-d-lt10.false c.read_command-2.ensures.read
