@@ -12,3 +12,11 @@ slice_bounds-read_number-start c = word_whole _ _ c.word_at-start.ensures
 
 pub slice_bounds-read_number-end : goal.slice_bounds-read_number-end
 slice_bounds-read_number-end c = word_within _ _ c.word_at-start.ensures
+
+pub returns : goal.returns
+returns c =
+    let at = c.args.at in
+    record {
+      number = c.read_number.ensures ∙ ap read_number (word_head _ at c.word_at-start.ensures);
+      others = word_tail _ at c.word_at-start.ensures;
+    }

@@ -1,0 +1,25 @@
+-- 20, 21, a foreign address, or the whole line, with room for its answer.
+use Rattle.carriage.proofs.Heard.{heard_small, heard_bad, heard_foreign, heard_line}
+use Rattle.carriage.proofs.hear.Goals as goal
+
+pub returns-then-room-lt-LONGEST_REPLY : goal.returns-then-room-lt-LONGEST_REPLY
+returns-then-room-lt-LONGEST_REPLY c =
+    let a = c.args in heard_small a.own_val a.good a.line.now a.room c.if-room-lt-LONGEST_REPLY.true
+
+pub returns-then-not-good : goal.returns-then-not-good
+returns-then-not-good c =
+    let a = c.args in
+    heard_bad a.own_val a.good a.line.now a.room c.if-room-lt-LONGEST_REPLY.false c.if-not-good.true
+
+pub returns-then-room-foreign : goal.returns-then-room-foreign
+returns-then-room-foreign c =
+    let a = c.args in
+    heard_foreign a.own_val a.good a.line.now a.room c.if-room-lt-LONGEST_REPLY.false c.if-not-good.false
+    c.open_line-o.ensures c.foreign.ensures c.if-room-foreign.true
+
+pub returns : goal.returns
+returns c =
+    let a = c.args in
+    heard_line a.own_val a.good a.line.now a.room c.if-room-lt-LONGEST_REPLY.false c.if-not-good.false
+    c.open_line-o.ensures c.foreign.ensures c.if-room-foreign.false
+    c.read_line.ensures.0 c.with_room.ensures
