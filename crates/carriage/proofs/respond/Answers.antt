@@ -7,26 +7,6 @@ use Rattle.carriage.specs.ReadOnce.{respond_to}
 use Rattle.carriage.proofs.Answers.{once_as, silence_gives, rejection_digit, rejection_gives, joined, told_fits, answer_fits, acceptance_digit, acceptance_gives}
 use Rattle.carriage.proofs.respond.Goals as goal
 
-pub put_reply-length-requires : goal.put_reply-length-requires
-put_reply-length-requires c =
-    let a = c.args in
-    let w = once_as a.d a.line.now a.r a.reply.now c.good-good.ensures c.overhear.ensures
-    c.rule.ensures c.k-1.given.1 in
-    (w.fair.0, rejection_digit _ _ _ _ _ _ w c.heading_of.ensures, omega (arith, refusal_length c.k-1.given.0.1.0))
-
-pub put_answer-length-requires : goal.put_answer-length-requires
-put_answer-length-requires c =
-    let a = c.args in
-    let w = once_as a.d a.line.now a.r a.reply.now c.good-good.ensures c.overhear.ensures
-    c.rule.ensures c.k-in-Accepted-1.given.1 in
-    let next = ⊎_elim (λ n. n.2 ∙ n.1.ensures) (λ n. joined _ _ _ _ _ _ _ _ _ w n.0.left n.1) c.if-not-x.branch in
-    let form-is = c.form.ensures in
-    let end_is = c.end_within.ensures in (
-      answer_fits _ _ _ _ _ _ _ _ _ w form-is end_is c.told-told.ensures,
-      acceptance_digit _ _ _ _ _ _ _ _ _ w form-is end_is c.told-told.ensures next c.heading_of-in-Accepted.ensures,
-      told_fits _ _ _ _ _ _ _ _ _ w form-is end_is c.told-told.ensures,
-    )
-
 pub returns-in-Silent : goal.returns-in-Silent
 unfolding respond_to
 returns-in-Silent c =
@@ -42,13 +22,3 @@ returns-in-Rejected c =
     let w = once_as a.d a.line.now a.r a.reply.now c.good-good.ensures c.overhear.ensures
     c.rule.ensures c.in-Rejected.is in
     rejection_gives _ _ _ _ _ _ w c.heading_of.ensures c.put_reply-length.ensures
-
-pub returns-after-not-x : goal.returns-after-not-x
-unfolding respond_to
-returns-after-not-x c =
-    let a = c.args in
-    let w = once_as a.d a.line.now a.r a.reply.now c.good-good.ensures c.overhear.ensures
-    c.rule.ensures c.k-in-Accepted-1.given.1 in
-    let next = ⊎_elim (λ n. n.2 ∙ n.1.ensures) (λ n. joined _ _ _ _ _ _ _ _ _ w n.0.left n.1) c.if-not-x.branch in
-    acceptance_gives _ _ _ _ _ _ _ _ _ w c.form.ensures c.end_within.ensures c.told-told.ensures next
-    c.heading_of-in-Accepted.ensures c.put_answer-length.ensures

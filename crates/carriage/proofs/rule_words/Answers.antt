@@ -4,11 +4,3 @@ use Rattle.carriage.proofs.rule_words.Goals as goal
 
 pub returns-in-Refused : goal.returns-in-Refused
 returns-in-Refused c = simp c.in-Refused.is
-
-pub returns-then-x-eq0 : goal.returns-then-x-eq0
-returns-then-x-eq0 c =
-    ruled_accepted _ _ _ _ _ c.w-in-Command-1.given.1 c.rule-x.ensures c.if-x-eq0.true
-
-pub returns-else-x-eq0 : goal.returns-else-x-eq0
-returns-else-x-eq0 c =
-    ruled_rejected _ _ _ _ _ c.w-in-Command-1.given.1 c.rule-x.ensures c.if-x-eq0.false

@@ -5,12 +5,9 @@ use Rattle.laws.specs.Text.{text}
 use Rattle.words.specs.Cutting.{is_space, no_space, grow_at, words_from, cut, head_word}
 use Rattle.host_writer.specs.Names.{names}
 use Rattle.host_writer.proofs.RowTexts.{name_is}
+use borrow.Author.Rules.{rules}
 use Rattle.host_writer.proofs.names.put_setting.Goals as goal
 
-found : (c : tie.After-nth-word) → c.nth-word.result.now ≡ head_word (drop c.before.place_of.result names)
-unfolding text cut is_space no_space grow_at words_from
-found c = c.nth-word.ensures
-
 pub returns : goal.returns
-returns c =
-    rw (← name_is _ c.place_of.result _ c.place_of.ensures (found word)) c.put_word.ensures  -- TODO var word
+unfolding text cut is_space no_space grow_at words_from
+returns c = rw (← name_is _ c.place_of.result _ c.place_of.ensures c.nth_word-name.ensures) c.put_word.ensures

@@ -11,35 +11,22 @@ use Rattle.host_writer.specs.Rows.{carried}
 use Rattle.host_writer.proofs.RowWalks.{stands, stands_itself}
 use Rattle.host_writer.proofs.rows.put_place.Goals as goal
 
-found : (c : tie.After-find-word) → (let start = c.before.before.before.before.before in
-    c.find-word.result ≡ index start.args.w.now (map (λ n. n.word) (carried start.args.f (cut start.args.message.now))))
-unfolding text cut is_space no_space grow_at words_from
-found c = c.find-word.ensures
-
-at-least-four : (c : tie.At-match-rest) → 4 ≤ c.before.find-word.result
-at-least-four c = omega arith
-
 pub returns-in-0 : goal.returns-in-0
-unfolding trail
-returns-in-0 c =
-    rw (← stands _ _ _ _ (found c {-PLACE After-put_numbered-arg-}), c.in-0.is, append-nil) c.put_numbered.ensures  -- TODO match.before
+unfolding trail text cut is_space no_space grow_at words_from
+returns-in-0 c = rw (← stands _ _ _ _ c.find_word.ensures, c.in-0.is, append-nil) c.put_numbered.ensures
 
 pub returns-in-1 : goal.returns-in-1
-unfolding trail
-returns-in-1 c =
-    rw (← stands _ _ _ _ (found c {-PLACE After-put_numbered-arg5-}), c.in-1.is, append-nil) c.put_numbered-in-1.ensures  -- TODO match.before
+unfolding trail text cut is_space no_space grow_at words_from
+returns-in-1 c = rw (← stands _ _ _ _ c.find_word.ensures, c.in-1.is, append-nil) c.put_numbered-in-1.ensures
 
 pub returns-in-2 : goal.returns-in-2
-unfolding trail
-returns-in-2 c =
-    rw (← stands _ _ _ _ (found c {-PLACE After-find_word-}), c.in-2.is, append-nil) c.put_setting.ensures  -- TODO match.before
+unfolding trail text cut is_space no_space grow_at words_from
+returns-in-2 c = rw (← stands _ _ _ _ c.find_word.ensures, c.in-2.is, append-nil) c.put_setting.ensures
 
 pub returns-in-3 : goal.returns-in-3
-unfolding trail
-returns-in-3 c =
-    rw (← stands _ _ _ _ (found c {-PLACE After-find_word-}), c.in-3.is) c.put_message.ensures  -- TODO match.before
+unfolding trail text cut is_space no_space grow_at words_from
+returns-in-3 c = rw (← stands _ _ _ _ c.find_word.ensures, c.in-3.is) c.put_message.ensures
 
 pub returns-in_default : goal.returns-in_default
-unfolding trail
-returns-in_default c =
-    rw (← stands_itself _ _ _ _ (found c {-PLACE After-find_word-}) (at-least-four match), append-nil) c.put_word.ensures  -- TODO match.before var match
+unfolding trail text cut is_space no_space grow_at words_from
+returns-in_default c = rw (← stands_itself _ _ _ _ c.find_word.ensures (omega arith), append-nil) c.put_word.ensures

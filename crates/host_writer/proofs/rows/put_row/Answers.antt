@@ -10,30 +10,7 @@ use Rattle.buffer.proofs.Wrote.{wrote_length}
 use Rattle.reply.proofs.Writing.{writing_first}
 use Rattle.host_writer.proofs.RowWalks.{no_words, fewer, walk_none, walk_ends, walk_next, walk_later, walk_more}
 use Rattle.host_writer.proofs.rows.put_row.Goals as goal
-
-abbrev Found : tie.After-past-word invariant-loop decreases-loop → Type 0
-Found c =
-    let word = c.before.before.before.before in
-    let l = word.before.before in
-    let rows = l.before.before.before.before.args.rows.now in
-    cut (drop l.loop.place rows) ≡ word.first_word.result.now ∷ cut (drop c.past_word.result rows)
-
--- SETTLED? need same-length
--- same_length : tie.Need-same-length invariant-loop decreases-loop
--- same_length c = wrote_length c.before.before.before.loop.invariant.wrote
-
--- SETTLED? need same-length-2
--- same-length-2 : tie.Need-same-length-2 invariant-loop decreases-loop
--- same-length-2 c = wrote_length c.before.before.before.before.before.before.loop.invariant.wrote
-
-word_is : (c : tie.After-past-word invariant-loop decreases-loop) → Found c
-word_is c =
-    let tested = c.before.before.before in
-    word_some _ _ _ tested.before.first_word.ensures c.past_word.ensures.1 tested.if1.false
-
--- SETTLED? need same-length-3
--- same-length-3 : tie.Need-same-length-3 invariant-loop decreases-loop
--- same-length-3 c = wrote_length c.before.loop.invariant.wrote
+use Rattle.host_writer.proofs.rows.put_row.Goals.{then-ends_row+else-before-eq0, else-ends_row+then-before-eq0-2, else-ends_row+else-before-eq0-2}
 
 pub loop-place-init : goal.loop-place-init
 loop-place-init c = writing_first _ _ _
@@ -50,18 +27,22 @@ returns-then-before-eq0 c =
 pub overflow_sub-before : goal.overflow_sub-before
 overflow_sub-before c = omega arith
 
-pub loop-place-smaller : goal.loop-place-smaller
-loop-place-smaller c = fewer (word_is c)
-
 pub loop-place-preserved : goal.loop-place-preserved
 loop-place-preserved c =
     let inv = c.loop-place.invariant in
-    let is = word_is c in
+    let is = word_some _ _ _ c.first_word-w.ensures c.past_word-place.ensures.others c.if-w-eq0.false in
     let asked = c.ends_row.ensures in
-    ⊎_elim (λ w. walk_next _ _ _ inv is asked w.0.taken w.1.left w.2 w.3 w.4)
-    (⊎_elim (λ w. walk_more _ _ _ inv is asked w.0.left w.1.taken w.3.ensures w.6 w.7 w.8)
-    (λ w. walk_later _ _ _ inv is asked w.0.left w.1.left w.2 w.3 w.4))
-    c.if-ends_row.branch
+    elim c.if-ends_row.branch [
+      then-ends_row+else-before-eq0 w ↦
+        walk_next _ _ _ inv is asked w.if-ends_row.true w.if-before-eq0.false w.buf-is w.next-is w.before-is
+    | else-ends_row+then-before-eq0-2 w ↦
+        walk_more _ _ _ inv is asked w.if-ends_row.false w.if-before-eq0-2.true w.put_place-next.ensures w.buf-is w.next-is w.before-is
+    | else-ends_row+else-before-eq0-2 w ↦
+        walk_later _ _ _ inv is asked w.if-ends_row.false w.if-before-eq0-2.false w.buf-is w.next-is w.before-is ]
 
 pub returns : goal.returns
 returns c = walk_none _ _ _ c.loop-place.invariant (no_words _ c.loop-place.place c.loop-place-test.false)
+
+pub loop-place-smaller : goal.loop-place-smaller
+loop-place-smaller c =
+    fewer (word_some _ _ _ c.first_word-w.ensures c.past_word-place.ensures.others c.if-w-eq0.false)
