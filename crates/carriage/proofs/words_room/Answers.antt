@@ -5,3 +5,11 @@ use Rattle.carriage.proofs.words_room.Goals as goal
 
 pub returns-in-Refused : goal.returns-in-Refused
 returns-in-Refused c = search rules
+
+pub returns-then-informs : goal.returns-then-informs
+returns-then-informs c =
+    informing_room _ c.form.ensures c.demands-x.ensures c.informs.ensures c.in-Command.is c.if-informs.true
+
+pub returns-else-informs : goal.returns-else-informs
+returns-else-informs c =
+    plain_room _ c.form.ensures c.demands-x.ensures c.informs.ensures c.in-Command.is c.if-informs.false
