@@ -1,5 +1,3 @@
-pub mod Again
-pub mod Look
 pub mod Size
 pub mod Alone
 pub mod Walks

@@ -1,0 +1,7 @@
+-- `session::line_turn` meets its contract: what `step` answers is printed, and its next record goes on.
+use Rattle.session.proofs.Turns.{took_line}
+use Rattle.session.proofs.line_turn.Goals as goal
+
+pub returns : goal.returns
+returns c =
+    took_line _ _ c.step-a.ensures c.put_answer.ensures

@@ -1,0 +1,7 @@
+-- `session::report_turn` meets its contract: the report's number and its alert are printed, and its next record goes on.
+use Rattle.session.proofs.Turns.{took_report}
+use borrow.Author.Rules.{rules}
+use Rattle.session.proofs.report_turn.Goals as goal
+
+pub returns : goal.returns
+returns c = took_report _ _ c.read_report.ensures.read c.report_answer-a.ensures c.put_reported.ensures
