@@ -8,6 +8,7 @@ use native.Mathlib.Omega.{arith}
 use native.Mathlib.Numerals.{add-one}
 use lib.ListN.{length, take, drop, get_or, set, length-append, length-drop, take-append-drop, drop_of_length-le}
 use lib.Seq.{take-suc, drop-cons, take_all, length-take-le, set_at, append_snoc, get_or_at}
+use Rattle.std.proofs.lemmas.List.{set-get_or}
 use Rattle.laws.proofs.Lists.{rest}
 use Rattle.buffer.proofs.Wrote.{rest_over}
 use Rattle.line.specs.declared.LineRead.{LineRead}
@@ -17,6 +18,7 @@ use Rattle.carriage.specs.Step.{Gives}
 use Rattle.carriage.specs.ReadOnce.{respond_to}
 use Rattle.carriage.proofs.Room.{once_behind, once_fits}
 use Rattle.chain.specs.declared.Pass.{Pass}
+use Rattle.chain.specs.declared.Turn.{Turn}
 use Rattle.chain.specs.Walk.{heeds, responded, Taken, obeyed, idle, taken, Fits, Took, Run, run}
 
 -- ---- one turn
@@ -161,3 +163,27 @@ module _ (l : List ℕ) (p : Pass) (b : List ℕ) (xs : List Device) where
 
       pub idle_buffer : (run_to i).buffer ≡ (run_to (i + 1)).buffer
       idle_buffer = ap (λ (t : Taken). t.buffer) (sym stays) ∙ buffer_next
+
+    -- the turn as the code takes it: of records, a pass and a buffer that stand as after i turns
+    module _ {ds : List Device} {q : Pass} {c : List ℕ} (e : ds ≡ halfway i) (f : q ≡ (run_to i).pass) (g : c ≡ (run_to i).buffer) where
+      here : taken l (get_or ds i d) q c ≡ now-taken
+      here = rw (e, f, g)
+
+      pub heeded : {es : List Device} {r : Pass} {k : List ℕ} {t : Turn} {a : List ℕ} → heeds (get_or ds i d) q.read ≡ true → Took (obeyed l (get_or ds i d) q c) a t
+          → es ≡ set ds i t.device → r ≡ t.pass → k ≡ a
+          → (es ≡ halfway (i + 1)) × ((r ≡ (run_to (i + 1)).pass) × (k ≡ (run_to (i + 1)).buffer))
+      heeded {t = t} {a = a} heard w x y z =
+          let same : obeyed l (get_or ds i d) q c ≡ now-taken = sym (taken_obeyed l (get_or ds i d) q c heard) ∙ here in
+          let device : t.device ≡ now-taken.device = w.device ∙ ap (λ (s : Taken). s.device) same in
+          let pass : t.pass ≡ now-taken.pass = w.pass ∙ ap (λ (s : Taken). s.pass) same in
+          let buffer : a ≡ now-taken.buffer = w.buffer ∙ ap (λ (s : Taken). s.buffer) same in
+          (x ∙ ap (λ (v : Device). set ds i v) device ∙ ap (λ (v : List Device). set v i now-taken.device) e ∙ halfway_next,
+          (y ∙ pass ∙ pass_next, z ∙ buffer ∙ buffer_next))
+
+      pub unmoved : {es : List Device} {r : Pass} {k : List ℕ} → heeds (get_or ds i d) q.read ≡ false → es ≡ ds → r ≡ q → k ≡ c
+          → (es ≡ halfway (i + 1)) × ((r ≡ (run_to (i + 1)).pass) × (k ≡ (run_to (i + 1)).buffer))
+      unmoved deaf x y z =
+          let quiet : heeds (get_or (halfway i) i d) (run_to i).pass.read ≡ false =
+              sym (ap (λ (v : List Device). heeds (get_or v i d) q.read) e
+              ∙ ap (λ (v : Pass). heeds (get_or (halfway i) i d) v.read) f) ∙ deaf in
+          (x ∙ e ∙ sym (set-get_or (halfway i) i d) ∙ idle_next quiet, (y ∙ f ∙ idle_pass quiet, z ∙ g ∙ idle_buffer quiet))

@@ -9,4 +9,6 @@ returns c =
     took a.line.now a.d a.p.read a.p.place a.reply.now c.respond-a.ensures
 
 pub overflow_add-place : goal.overflow_add-place
-overflow_add-place c = ?
+overflow_add-place c =
+    let a = c.args in
+    record { fits = omega (arith, answer_fits a.line.now a.d a.p.read a.p.place a.reply.now c.respond-a.ensures c.requires) }
