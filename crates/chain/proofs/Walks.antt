@@ -176,14 +176,15 @@ module _ (l : List ℕ) (p : Pass) (b : List ℕ) (xs : List Device) where
           let same : obeyed l (get_or ds i d) q c ≡ now-taken = sym (taken_obeyed l (get_or ds i d) q c heard) ∙ here in
           let device : t.device ≡ now-taken.device = w.device ∙ ap (λ (s : Taken). s.device) same in
           let pass : t.pass ≡ now-taken.pass = w.pass ∙ ap (λ (s : Taken). s.pass) same in
-          let buffer : a ≡ now-taken.buffer = w.buffer ∙ ap (λ (s : Taken). s.buffer) same in
-          (x ∙ ap (λ (v : Device). set ds i v) device ∙ ap (λ (v : List Device). set v i now-taken.device) e ∙ halfway_next,
-          (y ∙ pass ∙ pass_next, z ∙ buffer ∙ buffer_next))
+          let buffer : a ≡ now-taken.buffer = w.buffer ∙ ap (λ (s : Taken). s.buffer) same in (
+            x ∙ ap (λ (v : Device). set ds i v) device ∙ ap (λ (v : List Device). set v i now-taken.device) e ∙ halfway_next,
+            (y ∙ pass ∙ pass_next, z ∙ buffer ∙ buffer_next),
+          )
 
       pub unmoved : {es : List Device} {r : Pass} {k : List ℕ} → heeds (get_or ds i d) q.read ≡ false → es ≡ ds → r ≡ q → k ≡ c
           → (es ≡ halfway (i + 1)) × ((r ≡ (run_to (i + 1)).pass) × (k ≡ (run_to (i + 1)).buffer))
       unmoved deaf x y z =
           let quiet : heeds (get_or (halfway i) i d) (run_to i).pass.read ≡ false =
-              sym (ap (λ (v : List Device). heeds (get_or v i d) q.read) e
-              ∙ ap (λ (v : Pass). heeds (get_or (halfway i) i d) v.read) f) ∙ deaf in
+          sym (ap (λ (v : List Device). heeds (get_or v i d) q.read) e
+          ∙ ap (λ (v : Pass). heeds (get_or (halfway i) i d) v.read) f) ∙ deaf in
           (x ∙ e ∙ sym (set-get_or (halfway i) i d) ∙ idle_next quiet, (y ∙ f ∙ idle_pass quiet, z ∙ g ∙ idle_buffer quiet))

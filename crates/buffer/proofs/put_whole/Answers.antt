@@ -6,10 +6,6 @@ use lib.Seq.{take_all}
 use Rattle.buffer.proofs.Wrote.{wrote_start, wrote_next, wrote_length}
 use Rattle.buffer.proofs.put_whole.Goals as goal
 
--- SETTLED? need same-length
--- same_length : tie.Need-same-length invariant-loop decreases-loop
--- same_length c = wrote_length c.before.loop.invariant.1
-
 pub loop-i-init : goal.loop-i-init
 loop-i-init c = (search rules, wrote_start _ _)
 

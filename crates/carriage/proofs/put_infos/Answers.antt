@@ -6,10 +6,6 @@ use Rattle.reply.proofs.HelpTexts.{before, infos_first, infos_more, infos_end}
 use Rattle.carriage.proofs.InfoLines.{line_within}
 use Rattle.carriage.proofs.put_infos.Goals as goal
 
--- SETTLED? need same-length
--- same_length : tie.Need-same-length invariant-loop decreases-loop
--- same_length c = wrote_length c.before.loop.invariant.2
-
 pub loop-i-init : goal.loop-i-init
 loop-i-init c = let a = c.args in (omega arith, omega arith, infos_first a.address a.sum _ _)
 

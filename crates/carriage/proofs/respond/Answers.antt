@@ -37,10 +37,10 @@ put_answer-length-requires c =
     let w = once_as a.d a.line.now a.r a.reply.now c.good-good.ensures c.overhear.ensures
     c.rule.ensures c.in-Accepted.is in
     let next_is : c.if-not-x.d ≡ next a.d c.in-Accepted.k c.in-Accepted.c =
-        elim c.if-not-x.branch [
-          then-not-x n ↦ n.d-is ∙ n.next-d.ensures
-        | else-not-x n ↦ joined _ _ _ _ _ _ _ _ _ w n.if-not-x.false n.d-is ] in
-    (
+    elim c.if-not-x.branch [
+      | then-not-x n ↦ n.d-is ∙ n.next-d.ensures
+      | else-not-x n ↦ joined _ _ _ _ _ _ _ _ _ w n.if-not-x.false n.d-is
+    ] in (
       answer_fits _ _ _ _ _ _ _ _ _ w c.form.ensures c.end_within.ensures (c.told-told.ensures.told, c.told-told.ensures.places),
       acceptance_digit _ _ _ _ _ _ _ _ _ w c.form.ensures c.end_within.ensures (c.told-told.ensures.told, c.told-told.ensures.places) next_is c.heading_of-in-Accepted.ensures,
       told_fits _ _ _ _ _ _ _ _ _ w c.form.ensures c.end_within.ensures (c.told-told.ensures.told, c.told-told.ensures.places),
@@ -53,7 +53,8 @@ returns-after-not-x c =
     let w = once_as a.d a.line.now a.r a.reply.now c.good-good.ensures c.overhear.ensures
     c.rule.ensures c.in-Accepted.is in
     let next_is : c.if-not-x.d ≡ next a.d c.in-Accepted.k c.in-Accepted.c =
-        elim c.if-not-x.branch [
-          then-not-x n ↦ n.d-is ∙ n.next-d.ensures
-        | else-not-x n ↦ joined _ _ _ _ _ _ _ _ _ w n.if-not-x.false n.d-is ] in
+    elim c.if-not-x.branch [
+      | then-not-x n ↦ n.d-is ∙ n.next-d.ensures
+      | else-not-x n ↦ joined _ _ _ _ _ _ _ _ _ w n.if-not-x.false n.d-is
+    ] in
     acceptance_gives _ _ _ _ _ _ _ _ _ w c.form.ensures c.end_within.ensures (c.told-told.ensures.told, c.told-told.ensures.places) next_is c.heading_of-in-Accepted.ensures c.put_answer-length.ensures

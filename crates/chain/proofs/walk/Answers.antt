@@ -24,14 +24,14 @@ loop-i-preserved c =
     let s = c.loop-i.invariant in
     let within : c.loop-i.i < length a.devices.now = omega (arith, c.loop-i-test.true, c.loop-i.auto.devices) in
     let next : (c.if-heeds.devices ≡ halfway a.line.now a.start a.reply.now a.devices.now (c.loop-i.i + 1))
-        × ((c.if-heeds.p ≡ (run_to a.line.now a.start a.reply.now a.devices.now (c.loop-i.i + 1)).pass)
-        × (c.if-heeds.reply ≡ (run_to a.line.now a.start a.reply.now a.devices.now (c.loop-i.i + 1)).buffer)) =
-        elim c.if-heeds.branch [
-          then-heeds w ↦
-            heeded a.line.now a.start a.reply.now a.devices.now c.loop-i.i _ within s.devices s.pass s.buffer
-            (sym c.heeds.ensures ∙ w.if-heeds.true) w.take_turn-t.ensures w.devices-is w.p-is w.reply-is
-        | else-heeds w ↦
-            unmoved a.line.now a.start a.reply.now a.devices.now c.loop-i.i _ within s.devices s.pass s.buffer
-            (sym c.heeds.ensures ∙ w.if-heeds.false) w.devices-is w.p-is w.reply-is ] in
+    × ((c.if-heeds.p ≡ (run_to a.line.now a.start a.reply.now a.devices.now (c.loop-i.i + 1)).pass)
+    × (c.if-heeds.reply ≡ (run_to a.line.now a.start a.reply.now a.devices.now (c.loop-i.i + 1)).buffer)) =
+    elim c.if-heeds.branch [
+      | then-heeds w ↦
+          heeded a.line.now a.start a.reply.now a.devices.now c.loop-i.i _ within s.devices s.pass s.buffer
+          (sym c.heeds.ensures ∙ w.if-heeds.true) w.take_turn-t.ensures w.devices-is w.p-is w.reply-is
+      | else-heeds w ↦
+          unmoved a.line.now a.start a.reply.now a.devices.now c.loop-i.i _ within s.devices s.pass s.buffer
+          (sym c.heeds.ensures ∙ w.if-heeds.false) w.devices-is w.p-is w.reply-is
+    ] in
     record { within = omega arith; devices = next.0; pass = next.1.0; buffer = next.1.1 }
-

@@ -5,10 +5,6 @@ use Rattle.numbers.specs.Checksum.{checksum}
 use Rattle.numbers.proofs.Sum.{total_more, total_end}
 use Rattle.numbers.proofs.checksum.Goals as goal
 
--- SETTLED? need overflow-cast-sum
--- cast-sum : tie.Need-overflow-cast-sum invariant-loop decreases-loop
--- cast-sum c = omega (arith, c.shared-slice-known.given c.before.before.loop.i)
-
 pub loop-i-init : goal.loop-i-init
 loop-i-init c = omega arith
 

@@ -6,10 +6,6 @@ use Rattle.input.proofs.Parted.{part_past, part_inside}
 use Rattle.session.proofs.Turns.{running_first, running_more, running_end}
 use Rattle.session.proofs.run_parts.Goals as goal
 
--- SETTLED? need same-length
--- same_length : tie.Need-same-length invariant-loop decreases-loop
--- same_length c = wrote_length c.before.loop.invariant.wrote
-
 pub loop-at-init : goal.loop-at-init
 loop-at-init c = running_first _ _ _
 

@@ -31,17 +31,20 @@ returns-then-covers-4 c =
     let g = axis_after c.args.c in
     let p = c.stretch_of-p.result in
     let first : Placed g p c.args.axes 0 c.args.axes c.if-covers.next =
-        elim c.if-covers.branch [
-          then-covers w ↦ set_there _ _ (sym c.covers.ensures ∙ w.if-covers.true) w.after.ensures w.next-is
-        | else-covers w ↦ left_there (sym c.covers.ensures ∙ w.if-covers.false) w.next-is ] in
+    elim c.if-covers.branch [
+      | then-covers w ↦ set_there _ _ (sym c.covers.ensures ∙ w.if-covers.true) w.after.ensures w.next-is
+      | else-covers w ↦ left_there (sym c.covers.ensures ∙ w.if-covers.false) w.next-is
+    ] in
     let second : Placed g p c.args.axes 1 c.if-covers.next c.if-covers-2.next =
-        elim c.if-covers-2.branch [
-          then-covers-2 w ↦ set_there _ _ (sym c.covers-2.ensures ∙ w.if-covers-2.true) w.after-then-covers-2.ensures w.next-is
-        | else-covers-2 w ↦ left_there (sym c.covers-2.ensures ∙ w.if-covers-2.false) w.next-is ] in
+    elim c.if-covers-2.branch [
+      | then-covers-2 w ↦ set_there _ _ (sym c.covers-2.ensures ∙ w.if-covers-2.true) w.after-then-covers-2.ensures w.next-is
+      | else-covers-2 w ↦ left_there (sym c.covers-2.ensures ∙ w.if-covers-2.false) w.next-is
+    ] in
     let third : Placed g p c.args.axes 2 c.if-covers-2.next c.if-covers-3.next =
-        elim c.if-covers-3.branch [
-          then-covers-3 w ↦ set_there _ _ (sym c.covers-3.ensures ∙ w.if-covers-3.true) w.after-then-covers-3.ensures w.next-is
-        | else-covers-3 w ↦ left_there (sym c.covers-3.ensures ∙ w.if-covers-3.false) w.next-is ] in
+    elim c.if-covers-3.branch [
+      | then-covers-3 w ↦ set_there _ _ (sym c.covers-3.ensures ∙ w.if-covers-3.true) w.after-then-covers-3.ensures w.next-is
+      | else-covers-3 w ↦ left_there (sym c.covers-3.ensures ∙ w.if-covers-3.false) w.next-is
+    ] in
     change_stretch g c.args.axes k p (stretch_inside _ _ _ c.stretch_of-p.ensures) first second third
     (set_there _ _ (sym c.covers-4.ensures ∙ c.if-covers-4.true) c.after-then-covers-4.ensures refl)
     ∙ stretch_change c.args.axes c.args.n c.args.k p k c.stretch_of-p.ensures g
@@ -52,17 +55,20 @@ returns-else-covers-4 c =
     let g = axis_after c.args.c in
     let p = c.stretch_of-p.result in
     let first : Placed g p c.args.axes 0 c.args.axes c.if-covers.next =
-        elim c.if-covers.branch [
-          then-covers w ↦ set_there _ _ (sym c.covers.ensures ∙ w.if-covers.true) w.after.ensures w.next-is
-        | else-covers w ↦ left_there (sym c.covers.ensures ∙ w.if-covers.false) w.next-is ] in
+    elim c.if-covers.branch [
+      | then-covers w ↦ set_there _ _ (sym c.covers.ensures ∙ w.if-covers.true) w.after.ensures w.next-is
+      | else-covers w ↦ left_there (sym c.covers.ensures ∙ w.if-covers.false) w.next-is
+    ] in
     let second : Placed g p c.args.axes 1 c.if-covers.next c.if-covers-2.next =
-        elim c.if-covers-2.branch [
-          then-covers-2 w ↦ set_there _ _ (sym c.covers-2.ensures ∙ w.if-covers-2.true) w.after-then-covers-2.ensures w.next-is
-        | else-covers-2 w ↦ left_there (sym c.covers-2.ensures ∙ w.if-covers-2.false) w.next-is ] in
+    elim c.if-covers-2.branch [
+      | then-covers-2 w ↦ set_there _ _ (sym c.covers-2.ensures ∙ w.if-covers-2.true) w.after-then-covers-2.ensures w.next-is
+      | else-covers-2 w ↦ left_there (sym c.covers-2.ensures ∙ w.if-covers-2.false) w.next-is
+    ] in
     let third : Placed g p c.args.axes 2 c.if-covers-2.next c.if-covers-3.next =
-        elim c.if-covers-3.branch [
-          then-covers-3 w ↦ set_there _ _ (sym c.covers-3.ensures ∙ w.if-covers-3.true) w.after-then-covers-3.ensures w.next-is
-        | else-covers-3 w ↦ left_there (sym c.covers-3.ensures ∙ w.if-covers-3.false) w.next-is ] in
+    elim c.if-covers-3.branch [
+      | then-covers-3 w ↦ set_there _ _ (sym c.covers-3.ensures ∙ w.if-covers-3.true) w.after-then-covers-3.ensures w.next-is
+      | else-covers-3 w ↦ left_there (sym c.covers-3.ensures ∙ w.if-covers-3.false) w.next-is
+    ] in
     change_stretch g c.args.axes k p (stretch_inside _ _ _ c.stretch_of-p.ensures) first second third
     (left_there (sym c.covers-4.ensures ∙ c.if-covers-4.false) refl)
     ∙ stretch_change c.args.axes c.args.n c.args.k p k c.stretch_of-p.ensures g

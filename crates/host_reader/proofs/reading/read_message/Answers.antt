@@ -11,13 +11,13 @@ returns-then-line-gt-LONGEST_REPLY c =
 pub returns-then-f-s : goal.returns-then-f-s
 returns-then-f-s c =
     let both = told _
-        (is_message_lem _ _ _ _ _ c.if-line-gt-LONGEST_REPLY.false c.content_end-end.ensures c.read_front-f.ensures c.said_in-s.ensures
-        c.is_ended.ensures c.if-f-s.true) in
+    (is_message_lem _ _ _ _ _ c.if-line-gt-LONGEST_REPLY.false c.content_end-end.ensures c.read_front-f.ensures c.said_in-s.ensures
+    c.is_ended.ensures c.if-f-s.true) in
     record { read = both.0; number = both.1 }
 
 pub returns : goal.returns
 returns c =
     let both = told _
-        (no_message _ _ _ _ _ c.if-line-gt-LONGEST_REPLY.false c.content_end-end.ensures c.read_front-f.ensures c.said_in-s.ensures
-        c.is_ended.ensures c.if-f-s.false) in
+    (no_message _ _ _ _ _ c.if-line-gt-LONGEST_REPLY.false c.content_end-end.ensures c.read_front-f.ensures c.said_in-s.ensures
+    c.is_ended.ensures c.if-f-s.false) in
     record { read = both.0; number = both.1 }

@@ -33,12 +33,13 @@ loop-place-preserved c =
     let is = word_some _ _ _ c.first_word-w.ensures c.past_word-place.ensures.others c.if-w-eq0.false in
     let asked = c.ends_row.ensures in
     elim c.if-ends_row.branch [
-      then-ends_row+else-before-eq0 w ↦
-        walk_next _ _ _ inv is asked w.if-ends_row.true w.if-before-eq0.false w.buf-is w.next-is w.before-is
-    | else-ends_row+then-before-eq0-2 w ↦
-        walk_more _ _ _ inv is asked w.if-ends_row.false w.if-before-eq0-2.true w.put_place-next.ensures w.buf-is w.next-is w.before-is
-    | else-ends_row+else-before-eq0-2 w ↦
-        walk_later _ _ _ inv is asked w.if-ends_row.false w.if-before-eq0-2.false w.buf-is w.next-is w.before-is ]
+      | then-ends_row+else-before-eq0 w ↦
+          walk_next _ _ _ inv is asked w.if-ends_row.true w.if-before-eq0.false w.buf-is w.next-is w.before-is
+      | else-ends_row+then-before-eq0-2 w ↦
+          walk_more _ _ _ inv is asked w.if-ends_row.false w.if-before-eq0-2.true w.put_place-next.ensures w.buf-is w.next-is w.before-is
+      | else-ends_row+else-before-eq0-2 w ↦
+          walk_later _ _ _ inv is asked w.if-ends_row.false w.if-before-eq0-2.false w.buf-is w.next-is w.before-is
+    ]
 
 pub returns : goal.returns
 returns c = walk_none _ _ _ c.loop-place.invariant (no_words _ c.loop-place.place c.loop-place-test.false)

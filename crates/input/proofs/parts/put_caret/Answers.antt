@@ -7,12 +7,6 @@ use Rattle.buffer.proofs.Wrote.{wrote_none, wrote_length}
 use Rattle.input.proofs.Prints.{caret_none, caret_more, caret_end}
 use Rattle.input.proofs.parts.put_caret.Goals as goal
 
--- SETTLED? need same-length
--- same_length : tie.Need-same-length invariant-loop decreases-loop
--- same_length c =
---     let put-text = c.before.before in
---     wrote_length put-text.put-text.ensures ∙ wrote_length put-text.before.before.before.before.loop.invariant.1
-
 pub returns-then-place-eq-NOWHERE : goal.returns-then-place-eq-NOWHERE
 returns-then-place-eq-NOWHERE c = caret_none _ c.if-place-eq-NOWHERE.true
 

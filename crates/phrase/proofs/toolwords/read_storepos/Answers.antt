@@ -55,8 +55,8 @@ returns-then-same_bytes c =
 
 pub store_at-requires : goal.store_at-requires
 store_at-requires c = (
-    number_places _ c.args.at c.word_at-start.ensures (search rules) c.read_number-n.ensures,
-    number_places _ c.word_at-start.result.end c.word_at-from.ensures (search rules) refl,
+  number_places _ c.args.at c.word_at-start.ensures (search rules) c.read_number-n.ensures,
+  number_places _ c.word_at-start.result.end c.word_at-from.ensures (search rules) refl,
 )
 
 pub returns : goal.returns

@@ -7,14 +7,6 @@ use Rattle.reply.proofs.Writing.{writing_first, writing_end}
 use Rattle.reply.proofs.Lists.{echo_turn, echo_end, echo_full}
 use Rattle.reply.proofs.data.put_more.Goals as goal
 
--- SETTLED? need same-length
--- same_length : tie.Need-same-length invariant-loop decreases-loop
--- same_length c = wrote_length c.before.before.before.loop.invariant.wrote
-
--- SETTLED? need same-length-2
--- same-length-2 : tie.Need-same-length-2 invariant-loop decreases-loop
--- same-length-2 c = wrote_length c.before.loop.invariant.wrote
-
 pub loop-left-init : goal.loop-left-init
 loop-left-init c = writing_first _ _ _
 

@@ -35,7 +35,7 @@ unfolding refusal_name refusals name_in text
 returns-in-16 c = rw c.in-16.is c.put_text-in-16.ensures
 
 pub returns-in_default : goal.returns-in_default
-returns-in_default c = 
+returns-in_default c =
     rw (refusal_none c.args.number (λ h. omega (arith, h)) (λ h. omega (arith, h)) (λ h. omega (arith, h)) (λ h. omega (arith, h))
     (λ h. omega (arith, h)) (λ h. omega (arith, h)) (λ h. omega (arith, h)))
     (wrote_none _ _)

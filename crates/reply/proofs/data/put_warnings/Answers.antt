@@ -8,10 +8,6 @@ use Rattle.reply.proofs.Lists.{list_split, names_yes, names_no, names_end}
 use Rattle.reply.proofs.data.put_warnings.Goals as goal
 use Rattle.reply.proofs.data.put_warnings.Goals.{then-left-eq1, else-left-eq1}
 
--- SETTLED? need same-length
--- same_length : tie.Need-same-length invariant-loop decreases-loop
--- same_length c = wrote_length (returns c)
-
 pub loop-i-init : goal.loop-i-init
 loop-i-init c = (omega arith, writing_first _ _ _)
 
@@ -32,7 +28,8 @@ loop-i-preserved c =
     let i = c.loop-i-test.true in (
       omega arith,
       elim c.if-left-eq1.branch [
-        then-left-eq1 w ↦
-          names_yes _ _ i l.invariant.1 w.if-left-eq1.true (w.put_byte-next.ensures ▸ w.put_warning-next.ensures) w.buf-is w.next-is
-      | else-left-eq1 w ↦ names_no _ _ i l.invariant.1 w.if-left-eq1.false w.buf-is w.next-is ],
+        | then-left-eq1 w ↦
+            names_yes _ _ i l.invariant.1 w.if-left-eq1.true (w.put_byte-next.ensures ▸ w.put_warning-next.ensures) w.buf-is w.next-is
+        | else-left-eq1 w ↦ names_no _ _ i l.invariant.1 w.if-left-eq1.false w.buf-is w.next-is
+      ],
     )

@@ -7,10 +7,6 @@ use Rattle.reply.proofs.Telling.{listed_start, listed_first, listed_next, listed
 use Rattle.reply.proofs.told.put_listed.Goals as goal
 use Rattle.reply.proofs.told.put_listed.Goals.{then-n-gt0, else-n-gt0}
 
--- SETTLED? need same-length
--- same_length : tie.Need-same-length invariant-loop decreases-loop
--- same_length c = wrote_length c.before.loop.invariant
-
 pub overflow_sub-from : goal.overflow_sub-from
 overflow_sub-from c = omega (arith, c.lesser-from.ensures)
 
@@ -39,8 +35,9 @@ loop-n-preserved c =
     let m = c.lesser-many.ensures in
     let q = c.pick.ensures in
     elim c.if-n-gt0.branch [
-      then-n-gt0 w ↦
-        listed_next _ _ _ f m l.n _ c.loop-n-test.true q l.invariant w.if-n-gt0.true w.put_byte-next.ensures w.buf-is w.next-is
-        c.put_signed-next.ensures
-    | else-n-gt0 w ↦
-        listed_first _ _ _ f m l.n _ c.loop-n-test.true q l.invariant w.if-n-gt0.false w.buf-is w.next-is c.put_signed-next.ensures ]
+      | then-n-gt0 w ↦
+          listed_next _ _ _ f m l.n _ c.loop-n-test.true q l.invariant w.if-n-gt0.true w.put_byte-next.ensures w.buf-is w.next-is
+          c.put_signed-next.ensures
+      | else-n-gt0 w ↦
+          listed_first _ _ _ f m l.n _ c.loop-n-test.true q l.invariant w.if-n-gt0.false w.buf-is w.next-is c.put_signed-next.ensures
+    ]
