@@ -2,35 +2,54 @@
 // What each part prints is `chain_session::turn`.
 #![tactic(auto)]
 
-ghost use Rattle.std.specs.Prelude.{◌≡◌};
+ghost use Rattle.std.specs.Prelude.{◌≡◌, IfOk};
+ghost use Rattle.std.specs.Io.{ReadsAtMost};
 ghost use Rattle.chain_session.specs.Held.{records_of, holding};
 ghost use Rattle.chain_session.specs.Cable.{turn as turn_of};
 
 use chain_session::Cable;
+use std::io;
+use std::io::Read;
+
+// Reads until buf is full or the input ends, and answers how many bytes stand at the front of buf.
+fn read_full(input: &mut impl Read, buf: &mut [u8]) -> io::Result<usize>
+    ensures { ReadsAtMost result buf.new }
+{
+    let mut done = 0;
+    while done < buf.len() {
+        let got = input.read(&mut buf[done..])?;
+        if got == 0 {
+            break;
+        }
+        done += got;
+    }
+    Ok(done)
+}
 
 // Prints what a part makes of the chain, and hands on the next one. The answers to one part have at most 96 bytes for the reply and for
 // each info line of each record.
-fn answer(c: Cable, part: &[u8]) -> Cable
-    ensures { result ≡ holding c (turn_of (records_of c) part.now).next }
+fn answer(rt: &impl Print, c: Cable, part: &[u8]) -> io::Result<Cable>
+    ensures { IfOk result (λ next. next ≡ holding c (turn_of (records_of c) part.now).next) }
 {
     let mut out = [0u8; 4608];
     let t = chain_session::turn(c, part, &mut out, 0);
-    io::write_all(libc::STDOUT_FILENO, &out[..t.place]);
-    t.next
+    rt.write_all(&out[..t.place])?;
+    Ok(t.next)
 }
 
-fn answer_each(first: Cable, input: &[u8]) {
+fn answer_each(rt: &impl Print, first: Cable, input: &[u8]) -> io::Result<()> {
     let mut c = first;
     let mut at: usize = 0;
     while at < input.len() {
         let end = input::parts::part_end(input, at);
-        c = answer(c, &input[at..end]);
+        c = answer(rt, c, &input[at..end])?;
         at = end;
     }
+    Ok(())
 }
 
-fn main() {
+fn main(rt: HostRuntime) -> io::Result<()> {
     let mut input = [0u8; 4096];
-    let got = io::read_full(libc::STDIN_FILENO, &mut input);
-    answer_each(chain_session::cable_start(), &input[..got]);
+    let got = read_full(&mut rt.stdin(), &mut input)?;
+    answer_each(&rt, chain_session::cable_start(), &input[..got])
 }

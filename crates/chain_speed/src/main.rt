@@ -2,19 +2,34 @@
 // plain one, whose file tools/plain/chain_speed.c says what both read and write.
 #![tactic(auto)]
 
+ghost use Rattle.std.specs.Io.{ReadsAtMost};
+
 use chain_session::Cable;
 use device::Device;
 use input::reports::ReportRead;
-use libc::STDOUT_FILENO;
 use reply::LONGEST_REPLY;
+use std::io;
+use std::io::Read;
 use units::Number;
 
+// Reads until buf is full or the input ends, and answers how many bytes stand at the front of buf.
+fn read_full(input: &mut impl Read, buf: &mut [u8]) -> io::Result<usize>
+    ensures { ReadsAtMost result buf.new }
+{
+    let mut done = 0;
+    while done < buf.len() {
+        let got = input.read(&mut buf[done..])?;
+        if got == 0 {
+            break;
+        }
+        done += got;
+    }
+    Ok(done)
+}
+
 // What was done: how many calls, and a sum over what they answered.
-fn say(calls: u64, sum: u64) {
-    io::print_decimal(STDOUT_FILENO, calls);
-    io::write_all(STDOUT_FILENO, b" ");
-    io::print_decimal(STDOUT_FILENO, sum);
-    io::write_all(STDOUT_FILENO, b"\n");
+fn say(rt: &impl Print, calls: u64, sum: u64) -> io::Result<()> {
+    println!(rt; "{calls} {sum}")
 }
 
 fn number_of(n: usize) -> Number {
@@ -32,11 +47,8 @@ fn fresh_at(i: usize) -> Device {
 fn fresh_chain(count: usize) -> Cable {
     let first = fresh_at(0);
     let mut devices = [first; 16];
-    let mut i: usize = 1;
-    while i < 16 {
-        let d = fresh_at(i);
-        devices[i] = d;
-        i += 1;
+    for i in 1..16 {
+        devices[i] = fresh_at(i);
     }
     Cable { devices, count }
 }
@@ -58,11 +70,8 @@ fn homed(c: Cable, home: bool, reply: &mut [u8]) -> Cable {
     let h = chain_session::hear(c, b"/home\n", reply);
     let count = h.next.count;
     let mut devices = h.next.devices;
-    let mut i: usize = 0;
-    while i < 16 {
-        let d = reached(devices[i]);
-        devices[i] = d;
-        i += 1;
+    for i in 0..16 {
+        devices[i] = reached(devices[i]);
     }
     Cable { devices, count }
 }
@@ -71,51 +80,53 @@ fn homed(c: Cable, home: bool, reply: &mut [u8]) -> Cable {
 fn hear_often(first: Cable, line: &[u8], many: usize, reply: &mut [u8]) -> u64 {
     let mut c = first;
     let mut sum: u64 = 0;
-    let mut i: usize = 0;
-    while i < many {
+    for _ in 0..many {
         let h = chain_session::hear(c, line, reply);
         let told = h.told;
         sum = (sum % 2147483648 + told.number as u64 + told.length as u64 % 2147483648)
             % 2147483648;
         c = h.next;
-        i += 1;
     }
     sum
 }
 
 fn sum_of(s: &[u8], from: u64) -> u64 {
     let mut sum = from;
-    let mut i: usize = 0;
-    while i < s.len() {
-        sum = (sum % 2147483648 + s[i] as u64) % 2147483648;
-        i += 1;
+    for b in s {
+        sum = (sum % 2147483648 + *b as u64) % 2147483648;
     }
     sum
 }
 
-fn run(repeat: Number, length: Number, home: Number, line: &[u8]) {
+fn run(
+    rt: &impl Print,
+    repeat: Number,
+    length: Number,
+    home: Number,
+    line: &[u8],
+) -> io::Result<()> {
     let count = length.place();
     if 16 < count {
-        return say(0, 0);
+        return say(rt, 0, 0);
     }
     if count == 0 {
-        return say(0, 0);
+        return say(rt, 0, 0);
     }
     let mut reply = [0u8; chain_session::MOST_ANSWERS];
     let c = homed(fresh_chain(count), home.place() == 1, &mut reply);
     let many = repeat.place();
     let sum = hear_often(c, line, many, &mut reply);
-    say(many as u64, sum_of(&reply, sum));
+    say(rt, many as u64, sum_of(&reply, sum))
 }
 
-fn main() {
+fn main(rt: HostRuntime) -> io::Result<()> {
     let mut input = [0u8; 4096];
-    let got = io::read_full(libc::STDIN_FILENO, &mut input);
+    let got = read_full(&mut rt.stdin(), &mut input)?;
     if got < 16 {
-        return say(0, 0);
+        return say(&rt, 0, 0);
     }
     match input::reports::read_report(&input[..16]) {
-        ReportRead::Misspelt => say(0, 0),
-        ReportRead::Report(repeat, length, home) => run(repeat, length, home, &input[16..got]),
+        ReportRead::Misspelt => say(&rt, 0, 0),
+        ReportRead::Report(repeat, length, home) => run(&rt, repeat, length, home, &input[16..got]),
     }
 }

@@ -3,26 +3,18 @@
 // one of its bytes, a caret stands under that byte: `session::show`.
 #![tactic(auto)]
 
-ghost use Rattle.std.specs.Prelude.{◌≡◌};
-ghost use Rattle.io.specs.Counts.{IsPrefixLen};
+ghost use Rattle.std.specs.Prelude.{◌≡◌, ◌≤◌, length, take, IfOk};
 ghost use Rattle.session.specs.Bench.{shown};
 
 use device::Device;
+use std::io;
+use std::io::Read;
 
-// A byte of standard input, where there is one.
-#[derive(Clone, Copy)]
-struct Byte {
-    there: bool,
-    byte: u8,
-}
-
-fn read_byte() -> Byte {
+// A byte of the input, where there is one.
+fn read_byte(input: &mut impl Read) -> io::Result<Option<u8>> {
     let mut next = [0u8; 1];
-    let there = io::read_full(libc::STDIN_FILENO, &mut next) == 1;
-    Byte {
-        there,
-        byte: next[0],
-    }
+    let got = input.read(&mut next)?;
+    Ok(next[..got].first().copied())
 }
 
 // How many bytes of a part are kept, and whether another part may follow.
@@ -33,34 +25,33 @@ struct Part {
 }
 
 // Reads up to the next LF, or the end of input, and keeps what buf has room for. A proved loop has to end, and nothing says that a
-// part does: the loop counts down from a number that no run uses up.
-fn read_part(buf: &mut [u8]) -> Part
-    ensures { IsPrefixLen result.kept buf.new }
+// part does: the loop goes over numbers that no run uses up.
+fn read_part(input: &mut impl Read, buf: &mut [u8]) -> io::Result<Part>
+    ensures within { IfOk result (λ part. part.kept ≤ length buf.new) }
+    ensures front { IfOk result (λ part. part.kept ≡ length (take part.kept buf.new)) }
 {
     let mut kept: usize = 0;
-    let mut left = u64::MAX;
-    while left > 0 {
-        let next = read_byte();
-        if !next.there {
-            return Part { kept, more: false };
+    for _ in 0..u64::MAX {
+        let Some(byte) = read_byte(input)? else {
+            return Ok(Part { kept, more: false });
+        };
+        kept = buffer::put_byte(buf, kept, byte);
+        if byte == 10 {
+            return Ok(Part { kept, more: true });
         }
-        kept = buffer::put_byte(buf, kept, next.byte);
-        if next.byte == 10 {
-            return Part { kept, more: true };
-        }
-        left -= 1;
     }
-    Part { kept, more: false }
+    Ok(Part { kept, more: false })
 }
 
-// Shows what a part makes of a record, and hands on the next one. What is shown of one part has at most 1,233 bytes.
-fn answer(d: Device, part: &[u8]) -> Device
-    ensures { result ≡ (shown d part.now).next }
+// Shows what a part makes of a record, and hands on the next one. What is shown of one part has at most 1,233 bytes. It is written at
+// once: standard output keeps nothing back.
+fn answer(rt: &impl Print, d: Device, part: &[u8]) -> io::Result<Device>
+    ensures { IfOk result (λ next. next ≡ (shown d part.now).next) }
 {
     let mut out = [0u8; 1233];
     let t = session::show(d, part, &mut out, 0);
-    io::write_all(libc::STDOUT_FILENO, &out[..t.place]);
-    t.next
+    rt.write_all(&out[..t.place])?;
+    Ok(t.next)
 }
 
 // The next record, and whether another part may follow.
@@ -71,30 +62,29 @@ struct Served {
 }
 
 // One part, of which 81 bytes are kept. Over 80 bytes a part is answered as its first 81 are (session/proofs/LongPart.antt).
-fn serve(d: Device) -> Served {
+fn serve(rt: &impl Print, input: &mut impl Read, d: Device) -> io::Result<Served> {
     let mut buf = [0u8; 81];
-    let p = read_part(&mut buf);
+    let p = read_part(input, &mut buf)?;
     if p.kept == 0 {
-        return Served {
+        return Ok(Served {
             next: d,
             more: p.more,
-        };
+        });
     }
-    Served {
-        next: answer(d, &buf[..p.kept]),
+    Ok(Served {
+        next: answer(rt, d, &buf[..p.kept])?,
         more: p.more,
-    }
+    })
 }
 
-fn main() {
+fn main(rt: HostRuntime) -> io::Result<()> {
     let mut d = session::bench_device();
-    let mut left = u64::MAX;
-    while left > 0 {
-        let s = serve(d);
+    for _ in 0..u64::MAX {
+        let s = serve(&rt, &mut rt.stdin(), d)?;
         if !s.more {
-            return;
+            break;
         }
         d = s.next;
-        left -= 1;
     }
+    Ok(())
 }

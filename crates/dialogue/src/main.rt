@@ -7,8 +7,8 @@ use command::{AxisCommand, AxisSetting, Command, DeviceCommand, DeviceSetting, T
 use device::Device;
 use host_reader::reading::field;
 use host_reader::{Message, MessageRead, Said, State, Text};
-use libc::STDOUT_FILENO;
 use reply::{LONGEST_ANSWER, LONGEST_REPLY};
+use std::io;
 use units::{Number, Position, Speed};
 
 // The moves; the last is beyond the travel.
@@ -81,95 +81,93 @@ fn axis(k: u8) -> u64 {
     }
 }
 
-fn say(text: &[u8]) {
-    io::write_all(STDOUT_FILENO, text);
+fn say(rt: &impl Print, text: &[u8]) -> io::Result<()> {
+    rt.write_all(text)
 }
 
-fn say_number(n: u64) {
-    io::print_decimal(STDOUT_FILENO, n);
+fn say_number(rt: &impl Print, n: u64) -> io::Result<()> {
+    print!(rt; "{n}")
 }
 
-fn say_either(yes: bool, a: &[u8], b: &[u8]) {
-    if yes {
-        say(a);
-    } else {
-        say(b);
-    }
+fn say_either(rt: &impl Print, yes: bool, a: &[u8], b: &[u8]) -> io::Result<()> {
+    if yes { say(rt, a) } else { say(rt, b) }
 }
 
-fn say_state(s: State) {
-    say_either(s.busy, b"BUSY, ", b"IDLE, ");
-    say(words::nth_word(b"-- FD FQ FS FT FB FP FE WR", s.warning));
+fn say_state(rt: &impl Print, s: State) -> io::Result<()> {
+    say_either(rt, s.busy, b"BUSY, ", b"IDLE, ")?;
+    let warning = words::nth_word(b"-- FD FQ FS FT FB FP FE WR", s.warning);
+    say(rt, warning)
 }
 
-fn say_text(t: Text, line: &[u8]) {
-    say(field(line, t.place, t.length));
+fn say_text(rt: &impl Print, t: Text, line: &[u8]) -> io::Result<()> {
+    say(rt, field(line, t.place, t.length))
 }
 
-fn say_data(ok: bool, s: State, t: Text, line: &[u8]) {
-    say_either(ok, b": OK, ", b": RJ, ");
-    say_state(s);
-    say(b", data ");
-    say_text(t, line);
+fn say_data(rt: &impl Print, ok: bool, s: State, t: Text, line: &[u8]) -> io::Result<()> {
+    say_either(rt, ok, b": OK, ", b": RJ, ")?;
+    say_state(rt, s)?;
+    say(rt, b", data ")?;
+    say_text(rt, t, line)
 }
 
-fn say_alert(s: State) {
-    say(b": alert, ");
-    say_state(s);
+fn say_alert(rt: &impl Print, s: State) -> io::Result<()> {
+    say(rt, b": alert, ")?;
+    say_state(rt, s)
 }
 
-fn say_info(t: Text, line: &[u8]) {
-    say(b": info, text ");
-    say_text(t, line);
+fn say_info(rt: &impl Print, t: Text, line: &[u8]) -> io::Result<()> {
+    say(rt, b": info, text ")?;
+    say_text(rt, t, line)
 }
 
 // What a message of each kind says.
-fn say_said(said: Said, line: &[u8]) {
+fn say_said(rt: &impl Print, said: Said, line: &[u8]) -> io::Result<()> {
     match said {
-        Said::Reply(ok, s, t) => say_data(ok, s, t, line),
-        Said::Alert(s) => say_alert(s),
-        Said::Info(t) => say_info(t, line),
+        Said::Reply(ok, s, t) => say_data(rt, ok, s, t, line),
+        Said::Alert(s) => say_alert(rt, s),
+        Said::Info(t) => say_info(rt, t, line),
     }
 }
 
-fn say_message(m: Message, line: &[u8]) {
-    say(b" => address ");
-    say_number(m.address);
-    say(b", axis ");
-    say_number(m.axis);
+fn say_message(rt: &impl Print, m: Message, line: &[u8]) -> io::Result<()> {
+    say(rt, b" => address ")?;
+    say_number(rt, m.address)?;
+    say(rt, b", axis ")?;
+    say_number(rt, m.axis)?;
     let said = m.said;
-    say_said(said, line);
-    say(b"\n");
+    say_said(rt, said, line)?;
+    say(rt, b"\n")
 }
 
-fn say_read(line: &[u8]) {
+fn say_read(rt: &impl Print, line: &[u8]) -> io::Result<()> {
     match host_reader::reading::read_message(line) {
-        MessageRead::Message(m) => say_message(m, line),
-        MessageRead::NotReply => say(b" => no message\n"),
+        MessageRead::Message(m) => say_message(rt, m, line),
+        MessageRead::NotReply => say(rt, b" => no message\n"),
     }
 }
 
 // What is sent, message by message: each ends with its LF.
-fn say_sent(sent: &[u8]) {
+fn say_sent(rt: &impl Print, sent: &[u8]) -> io::Result<()> {
     let mut at: usize = 0;
     while at < sent.len() {
         let end = input::parts::part_end(sent, at);
-        say_read(&sent[at..end]);
+        say_read(rt, &sent[at..end])?;
         at = end;
     }
+    Ok(())
 }
 
 // The line goes to the device, and its answer comes back.
-fn exchange(d: Device, line: &[u8]) -> Device {
+fn exchange(rt: &impl Print, d: Device, line: &[u8]) -> io::Result<Device> {
     let mut answer = [0u8; LONGEST_ANSWER];
     let a = carriage::step(d, line, &mut answer);
     let next = a.next;
-    say(field(line, 0, line::framing::printable_len(line)));
-    say_sent(field(&answer, 0, a.length));
-    next
+    say(rt, field(line, 0, line::framing::printable_len(line)))?;
+    say_sent(rt, field(&answer, 0, a.length))?;
+    Ok(next)
 }
 
-fn ask(d: Device, axis: u64, c: Command, sum: bool) -> Device {
+fn ask(rt: &impl Print, d: Device, axis: u64, c: Command, sum: bool) -> io::Result<Device> {
     let mut line = [0u8; 80];
     let w = host_writer::writing::write_command(
         &mut line,
@@ -179,34 +177,33 @@ fn ask(d: Device, axis: u64, c: Command, sum: bool) -> Device {
         b"both  axes are at rest",
         sum,
     );
-    exchange(d, field(&line, 0, w.length))
+    exchange(rt, d, field(&line, 0, w.length))
 }
 
 // A motor report; its alert comes by itself.
-fn reported(d: Device, axis: i32, kind: i32, last: i32) -> Device {
+fn reported(rt: &impl Print, d: Device, axis: i32, kind: i32, last: i32) -> io::Result<Device> {
     let mut alert = [0u8; LONGEST_REPLY];
     let a = carriage::report(d, Number(axis), Number(kind), Number(last), &mut alert);
     let next = a.next;
-    say_sent(field(&alert, 0, a.length));
-    next
+    say_sent(rt, field(&alert, 0, a.length))?;
+    Ok(next)
 }
 
 // What the motors report behind a command: both axes are home behind `home`; axis 2 raises FQ before `warnings`.
-fn motors(d: Device, k: u8) -> Device {
+fn motors(rt: &impl Print, d: Device, k: u8) -> io::Result<Device> {
     match k {
-        1 | 24 => reported(reported(d, 1, 3, 0), 2, 3, 0),
-        15 => reported(d, 2, 4, 2),
-        _ => d,
+        1 | 24 => reported(rt, reported(rt, d, 1, 3, 0)?, 2, 3, 0),
+        15 => reported(rt, d, 2, 4, 2),
+        _ => Ok(d),
     }
 }
 
-fn main() {
+fn main(rt: HostRuntime) -> io::Result<()> {
     let fresh = Device::fresh(Number(1), 2, Number(100));
     let mut d = fresh.next;
-    let mut k: u8 = 0;
-    while k < 25 {
-        let next = ask(d, axis(k), command(k), k % 2 == 1);
-        d = motors(next, k);
-        k += 1;
+    for k in 0..25 {
+        let next = ask(&rt, d, axis(k), command(k), k % 2 == 1)?;
+        d = motors(&rt, next, k)?;
     }
+    Ok(())
 }

@@ -2,60 +2,74 @@
 // NN.in is what bench reads and NN.out what it must print.
 #![tactic(auto)]
 
-ghost use Rattle.io.specs.Counts.{IsPrefixLen};
+ghost use Rattle.std.specs.Io.{ReadsAtMost};
 
-use libc::STDOUT_FILENO;
+use std::alloc::{AllocError, Global};
+use std::fs::File;
+use std::io;
+use std::io::Read;
+use std::rt::Files;
 
 // A file's name: two digits, and its ending.
-fn name(k: u8, ending: &[u8], buf: &mut [u8]) -> usize {
-    let dot = buffer::put_two(buf, 0, k as u64);
-    buffer::put_text(buf, dot, ending)
+fn name(alloc: Global, k: u8, ending: &str) -> Result<String, AllocError> {
+    format!(in alloc; "{k:02}{ending}")
+}
+
+// Reads until buf is full or the input ends, and answers how many bytes stand at the front of buf.
+fn read_full(input: &mut impl Read, buf: &mut [u8]) -> io::Result<usize>
+    ensures { ReadsAtMost result buf.new }
+{
+    let mut done = 0;
+    while done < buf.len() {
+        let got = input.read(&mut buf[done..])?;
+        if got == 0 {
+            break;
+        }
+        done += got;
+    }
+    Ok(done)
 }
 
 // Reads a file of data/ to the front of buf, and answers how many bytes it has; of a file that is missing, none.
-fn read_file(k: u8, ending: &[u8], buf: &mut [u8]) -> usize
-    ensures { IsPrefixLen result buf.new }
+fn read_file(
+    rt: &(impl Files + AllocGlobal),
+    k: u8,
+    ending: &str,
+    buf: &mut [u8],
+) -> io::Result<usize>
+    ensures { ReadsAtMost result buf.new }
 {
-    let mut path = [0u8; 16];
-    let length = name(k, ending, &mut path);
-    if 16 < length {
-        return 0;
+    let path = name(rt.alloc(), k, ending)?;
+    match File::open(rt, path) {
+        Ok(mut file) => read_full(&mut file, buf),
+        Err(_) => Ok(0),
     }
-    let fd = os::open_read(&path[..length]);
-    if fd < 0 {
-        return 0;
-    }
-    let got = io::read_full(fd, buf);
-    libc::close(fd);
-    got
 }
 
-fn say(k: u8, same: bool) {
-    io::print_decimal(STDOUT_FILENO, k as u64);
+fn say(rt: &impl Print, k: u8, same: bool) -> io::Result<()> {
     if same {
-        io::write_all(STDOUT_FILENO, b" same\n");
+        println!(rt; "{k} same")
     } else {
-        io::write_all(STDOUT_FILENO, b" DIFFERS\n");
+        println!(rt; "{k} DIFFERS")
     }
 }
 
 // A session that is missing is none that agrees. An output has twice the room of a stored one: where it is cut, it differs.
-fn replay(k: u8) {
+fn replay(rt: &(impl Files + AllocGlobal + Print), k: u8) -> io::Result<()> {
     let mut input = [0u8; 8192];
-    let got = read_file(k, b".in", &mut input);
+    let got = read_file(rt, k, ".in", &mut input)?;
     let mut output = [0u8; 32768];
     let length = session::run(&input[..got], &mut output);
     let mut stored = [0u8; 16384];
-    let expected = read_file(k, b".out", &mut stored);
+    let expected = read_file(rt, k, ".out", &mut stored)?;
     let same = words::same_bytes(&output[..length], &stored[..expected]);
     let there = 0 < got;
-    say(k, there & same);
+    say(rt, k, there & same)
 }
 
-fn main() {
-    let mut k: u8 = 0;
-    while k < 45 {
-        replay(k);
-        k += 1;
+fn main(rt: HostRuntime) -> io::Result<()> {
+    for k in 0..45 {
+        replay(&rt, k)?;
     }
+    Ok(())
 }

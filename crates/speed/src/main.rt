@@ -2,18 +2,33 @@
 // one, whose file tools/plain/speed.c says what both read and write.
 #![tactic(auto)]
 
+ghost use Rattle.std.specs.Io.{ReadsAtMost};
+
 use device::Device;
 use input::reports::ReportRead;
-use libc::STDOUT_FILENO;
 use reply::{LONGEST_ANSWER, LONGEST_REPLY};
+use std::io;
+use std::io::Read;
 use units::Number;
 
+// Reads until buf is full or the input ends, and answers how many bytes stand at the front of buf.
+fn read_full(input: &mut impl Read, buf: &mut [u8]) -> io::Result<usize>
+    ensures { ReadsAtMost result buf.new }
+{
+    let mut done = 0;
+    while done < buf.len() {
+        let got = input.read(&mut buf[done..])?;
+        if got == 0 {
+            break;
+        }
+        done += got;
+    }
+    Ok(done)
+}
+
 // What was done: how many steps, and a sum over what they answered.
-fn say(steps: u64, sum: u64) {
-    io::print_decimal(STDOUT_FILENO, steps);
-    io::write_all(STDOUT_FILENO, b" ");
-    io::print_decimal(STDOUT_FILENO, sum);
-    io::write_all(STDOUT_FILENO, b"\n");
+fn say(rt: &impl Print, steps: u64, sum: u64) -> io::Result<()> {
+    println!(rt; "{steps} {sum}")
 }
 
 // Axis k reached home at 0.
@@ -37,47 +52,43 @@ fn homed(d: Device, home: bool, reply: &mut [u8]) -> Device {
 fn step_often(first: Device, line: &[u8], many: usize, reply: &mut [u8]) -> u64 {
     let mut d = first;
     let mut sum: u64 = 0;
-    let mut i: usize = 0;
-    while i < many {
+    for _ in 0..many {
         let a = carriage::step(d, line, reply);
         sum = (sum % 2147483648 + a.number as u64 + a.length as u64 % 2147483648) % 2147483648;
         d = a.next;
-        i += 1;
     }
     sum
 }
 
 fn sum_of(s: &[u8], from: u64) -> u64 {
     let mut sum = from;
-    let mut i: usize = 0;
-    while i < s.len() {
-        sum = (sum % 2147483648 + s[i] as u64) % 2147483648;
-        i += 1;
+    for b in s {
+        sum = (sum % 2147483648 + *b as u64) % 2147483648;
     }
     sum
 }
 
-fn run(repeat: Number, axes: Number, home: Number, line: &[u8]) {
+fn run(rt: &impl Print, repeat: Number, axes: Number, home: Number, line: &[u8]) -> io::Result<()> {
     let fresh = Device::fresh(Number(1), (axes.place() % 256) as u8, Number(100));
     if fresh.number != 0 {
-        return say(0, 0);
+        return say(rt, 0, 0);
     }
     let mut reply = [0u8; LONGEST_ANSWER];
     let first = fresh.next;
     let d = homed(first, home.place() == 1, &mut reply);
     let many = repeat.place();
     let sum = step_often(d, line, many, &mut reply);
-    say(many as u64, sum_of(&reply, sum));
+    say(rt, many as u64, sum_of(&reply, sum))
 }
 
-fn main() {
+fn main(rt: HostRuntime) -> io::Result<()> {
     let mut input = [0u8; 4096];
-    let got = io::read_full(libc::STDIN_FILENO, &mut input);
+    let got = read_full(&mut rt.stdin(), &mut input)?;
     if got < 15 {
-        return say(0, 0);
+        return say(&rt, 0, 0);
     }
     match input::reports::read_report(&input[..15]) {
-        ReportRead::Misspelt => say(0, 0),
-        ReportRead::Report(repeat, axes, home) => run(repeat, axes, home, &input[15..got]),
+        ReportRead::Misspelt => say(&rt, 0, 0),
+        ReportRead::Report(repeat, axes, home) => run(&rt, repeat, axes, home, &input[15..got]),
     }
 }
