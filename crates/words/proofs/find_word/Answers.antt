@@ -1,6 +1,5 @@
 -- Invariant: k words are passed, and w is none of them.
 use mathlib.Core.Path.{sym, ◌∙◌}
-use Prim.Native.Nat.{◌-◌}
 use native.Mathlib.Omega.{arith}
 use Rattle.words.proofs.Cut.{word_whole, word_within, word_empty, word_part}
 use Rattle.words.proofs.Index.{none_left, ended, here, past}

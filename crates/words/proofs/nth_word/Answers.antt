@@ -1,6 +1,5 @@
 -- Invariant: so many words are passed.
 use mathlib.Core.Path.{◌≡◌, refl, ap, ◌∙◌}
-use Prim.Native.Nat.{◌-◌}
 use native.Mathlib.Omega.{arith}
 use Rattle.words.specs.Cutting.{head_word}
 use Rattle.words.proofs.Cut.{word_whole, word_within, word_head, word_tail, nth_more}

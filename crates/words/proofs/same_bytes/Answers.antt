@@ -1,6 +1,5 @@
 -- Invariant: the rests from i on are the same just where the wholes are.
 use mathlib.Core.Path.{refl, sym, ◌∙◌}
-use Prim.Native.Nat.{◌-◌}
 use native.Mathlib.Omega.{arith}
 use Rattle.laws.proofs.Same.{other_length, same_more, same_stop, same_end}
 use Rattle.words.proofs.same_bytes.Goals as goal

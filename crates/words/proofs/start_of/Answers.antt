@@ -1,6 +1,5 @@
 -- Invariant: what is passed from start on, behind start, ends where what is passed from at on ends.
 use mathlib.Core.Path.{refl, sym, ◌∙◌}
-use Prim.Native.Nat.{◌-◌}
 use native.Mathlib.Omega.{arith}
 use Rattle.words.specs.Cutting.{is_space}
 use Rattle.laws.proofs.Span.{passed, stopped, ended}
