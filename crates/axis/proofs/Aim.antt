@@ -6,7 +6,6 @@ use Prim.Native.Nat.{ℕ}
 use native.Mathlib.Omega.{arith}
 use Rattle.units.specs.Units.{position}
 use Rattle.units.specs.declared.Reach.{Reach}
-use Rattle.units.specs.declared.Reach.TheVariants as Reach
 use Rattle.settings.specs.Types.{Position, Target}
 use Rattle.axis.specs.declared.Motion.TheVariants.{To}
 use Rattle.axis.specs.declared.Axis.{Axis}

@@ -4,7 +4,6 @@ use Rattle.std.specs.Prelude.{cond}
 use Rattle.units.specs.Units.{position, ◌to◌}
 use Rattle.units.specs.Reach.{reach}
 use Rattle.units.specs.declared.Reach.{Reach}
-use Rattle.units.specs.declared.Reach.TheVariants as Reach
 use Rattle.settings.specs.Types.{Target}
 use Rattle.axis.specs.declared.Axis.{Axis}
 use Rattle.axis.specs.Travel.{limit_min, limit_max, target, exists, may_move_to}

@@ -25,7 +25,7 @@ use Rattle.reply.specs.Reply.{alert}
 use Rattle.carriage.specs.declared.Heading.{Heading}
 use Rattle.carriage.specs.Report.{alert_due, alert_of, report}
 use Rattle.carriage.specs.Rulings.{heading_of}
-use Rattle.carriage.specs.Step.{Gives, silent}
+use Rattle.carriage.specs.Step.{Gives}
 use Rattle.carriage.proofs.Replies.{head_digit, alert_short, wrote_gives}
 use Rattle.carriage.proofs.Steps.{silent_gives}
 

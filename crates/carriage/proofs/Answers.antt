@@ -12,7 +12,6 @@ use Rattle.words.specs.Cutting.{cut}
 use Rattle.command.specs.declared.Command.{Command}
 use Rattle.command.specs.declared.forms.Form.{Form}
 use Rattle.command.specs.declared.kinds.Data.{Data}
-use Rattle.command.specs.declared.kinds.Data.TheVariants as Data
 use Rattle.command.specs.declared.kinds.Demands.{Demands}
 use Rattle.command.specs.Forms.{form_of}
 use Rattle.command.specs.Commands.{demands, is_words, is_info}

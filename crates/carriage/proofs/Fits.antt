@@ -32,7 +32,6 @@ use Rattle.command.specs.declared.Setting.{Setting}
 use Rattle.command.specs.declared.Setting.TheVariants.{OfAxis, OfDevice}
 use Rattle.command.specs.declared.forms.Form.{Form}
 use Rattle.command.specs.declared.kinds.Data.{Data}
-use Rattle.command.specs.declared.kinds.Data.TheVariants as Data
 use Rattle.command.specs.Forms.{form_of}
 use Rattle.command.specs.Commands.{demands, carries_words}
 use Rattle.command.specs.declared.Command.{Command}
@@ -56,7 +55,6 @@ use Rattle.reply.specs.Data.{values, echoed}
 use Rattle.reply.proofs.Lengths.{Short, values_length, list_length, echoed_none, echo_fits}
 use Rattle.view.specs.View.{value_in, values_of, warnings_of}
 use Rattle.view.specs.declared.Value.{Value}
-use Rattle.view.specs.declared.Value.TheVariants as Value
 use Rattle.words.specs.Cutting.{cut}
 use Rattle.line.specs.Reading.{carried_by}
 use Rattle.line.proofs.Carried.{Carried}

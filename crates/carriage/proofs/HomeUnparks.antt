@@ -1,6 +1,6 @@
 -- From the bytes of a line to the carriage: a home that is accepted leaves the device unparked and the axes concerned homing, and
 -- nothing else changed; and a device accepts it, parked or not. Over every record and buffer. Assumes nothing.
-use mathlib.Core.Path.{◌≡◌, refl, ap, ◌∙◌}
+use mathlib.Core.Path.{◌≡◌, ap, ◌∙◌}
 use mathlib.Core.Bool.{true, false}
 use mathlib.Core.List.{List, map}
 use Prim.Native.Nat.{ℕ, ◌≤◌}

@@ -12,7 +12,6 @@ use borrow.Author.Tests.{le-leb, lt-leb}
 use Rattle.laws.specs.Lists.{fold}
 use Rattle.laws.proofs.Order.{lt_or_le}
 use Rattle.command.specs.declared.Command.{Command}
-use Rattle.command.specs.declared.Command.TheVariants as Command
 use Rattle.command.specs.Commands.{informs}
 use Rattle.units.specs.Units.{place}
 use Rattle.buffer.specs.Wrote.{Wrote}

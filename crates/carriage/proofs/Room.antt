@@ -16,7 +16,6 @@ use Rattle.units.specs.Units.{place}
 use Rattle.units.specs.declared.Number.{Number}
 use Rattle.axis.specs.declared.reports.Report.{Report}
 use Rattle.axis.specs.Reports.{report_of, rests}
-use Rattle.command.specs.declared.Command.{Command}
 use Rattle.phrase.specs.declared.WordsRead.TheVariants as Words
 use Rattle.line.specs.declared.LineRead.{LineRead}
 use Rattle.line.specs.declared.LineRead.TheVariants as Line

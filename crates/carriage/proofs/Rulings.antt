@@ -18,7 +18,6 @@ use Rattle.phrase.specs.declared.WordsRead.TheVariants as Words
 use Rattle.line.specs.declared.LineRead.{LineRead}
 use Rattle.line.specs.declared.LineRead.TheVariants as Line
 use Rattle.line.specs.declared.Opening.{Opening}
-use Rattle.line.specs.declared.Opening.TheVariants as Opening
 use Rattle.line.specs.Reading.{read_line, carried_by}
 use Rattle.line.specs.Opening.{open_line, read_on}
 use Rattle.line.proofs.Opened.{opened_read}

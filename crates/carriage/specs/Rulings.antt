@@ -6,7 +6,6 @@ use Rattle.command.specs.Commands.{demands}
 use Rattle.phrase.specs.declared.WordsRead.{WordsRead}
 use Rattle.phrase.specs.declared.WordsRead.TheVariants as Words
 use Rattle.line.specs.declared.Opening.{Opening}
-use Rattle.line.specs.declared.Opening.TheVariants as Opening
 use Rattle.line.specs.declared.LineRead.{LineRead}
 use Rattle.line.specs.declared.LineRead.TheVariants as Line
 use Rattle.line.specs.Opening.{open_line, read_on}

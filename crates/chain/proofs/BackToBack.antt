@@ -1,6 +1,6 @@
 -- What a call leaves in the buffer: the answers, one behind the other, and behind the last what stood there; and the promise leaves no
 -- choice. Assumes nothing.
-use mathlib.Core.Path.{◌≡◌, refl, ap, ◌∙◌}
+use mathlib.Core.Path.{◌≡◌, refl, ap}
 use mathlib.Core.List.{List, [], ◌∷◌, ◌++◌, append_assoc}
 use Prim.Native.Nat.{ℕ, zero, suc}
 use lib.ListN.{length, take, drop, get_or, length-append}

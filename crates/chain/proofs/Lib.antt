@@ -1,3 +1,4 @@
+pub mod Again
 pub mod Size
 pub mod Alone
 pub mod Walks

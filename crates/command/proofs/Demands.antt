@@ -1,7 +1,6 @@
 -- What a row and a setting demand, by what the row has to do with the setting.
 -- Assumes nothing.
 use mathlib.Core.Path.{◌≡◌, sym, ap}
-use Rattle.command.specs.declared.Setting.{Setting}
 use Rattle.command.specs.declared.forms.Form.{Form}
 use Rattle.command.specs.declared.kinds.Use.{Use}
 use Rattle.command.specs.declared.kinds.Kind.{Kind}

@@ -1,9 +1,7 @@
 -- The form of a command, filled into its row of the table, makes that very command.
 -- Assumes nothing.
 use mathlib.Core.Path.{◌≡◌, refl}
-use Rattle.command.specs.declared.Setting.TheVariants as Setting
 use Rattle.command.specs.declared.Target.{Target}
-use Rattle.command.specs.declared.Target.TheVariants as Target
 use Rattle.command.specs.declared.AxisCommand.{AxisCommand}
 use Rattle.command.specs.declared.AxisCommand.TheVariants as Axis
 use Rattle.command.specs.declared.DeviceCommand.{DeviceCommand}

@@ -4,7 +4,6 @@ use mathlib.Core.Path.{◌≡◌, refl}
 use mathlib.Core.Bool.{true, false}
 use Rattle.laws.proofs.Bools.{clash}
 use Rattle.command.specs.declared.Target.{Target}
-use Rattle.command.specs.declared.Target.TheVariants as Target
 use Rattle.command.specs.declared.AxisCommand.{AxisCommand}
 use Rattle.command.specs.declared.AxisCommand.TheVariants.{Nothing, Home, Stop, Estop, MoveTo, MoveVel, Get, Set, Storepos, StoreposAt, StoreposCurrent, Warnings, WarningsClear}
 use Rattle.command.specs.declared.DeviceCommand.TheVariants as Device

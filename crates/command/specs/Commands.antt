@@ -1,6 +1,6 @@
 -- Document 01's table of commands, and behind it the commands of 02: one line a row, with its words and what is constant of it. The only
 -- list of these words beside the spelling and the reader: refusing, writing and what an echo carries are said from it.
-use Rattle.std.specs.Prelude.{Bool, true, false, cond, ◌&&◌, List, [], ◌∷◌, ◌++◌, map, ℕ, get_or, length, drop}
+use Rattle.std.specs.Prelude.{Bool, true, false, cond, List, [], ◌∷◌, ◌++◌, map, ℕ, get_or, drop}
 use Prim.Native.String.{String}
 use Rattle.laws.specs.Text.{text}
 use Rattle.units.specs.Units.{position, speed}
@@ -8,7 +8,6 @@ use Rattle.units.specs.declared.Position.{Position as Microsteps}
 use Rattle.units.specs.declared.Number.{Number}
 use Rattle.numbers.specs.Decimal.{decimal}
 use Rattle.command.specs.declared.Setting.{Setting}
-use Rattle.command.specs.declared.Setting.TheVariants as Setting
 use Rattle.command.specs.declared.Target.TheVariants.{Abs, Rel, Min, Max}
 use Rattle.command.specs.declared.Target.TheVariants as Target
 use Rattle.command.specs.declared.AxisCommand.{AxisCommand}

@@ -3,7 +3,7 @@
 use mathlib.Core.Path.{◌≡◌, refl, sym, ap, ◌∙◌}
 use mathlib.Core.Bool.{Bool, true, false, cond}
 use mathlib.Core.List.{List, [], ◌∷◌}
-use Prim.Native.Nat.{ℕ, zero, suc, ◌+◌, ◌<◌, ◌≤◌}
+use Prim.Native.Nat.{ℕ, zero, suc, ◌+◌, ◌≤◌}
 use native.Mathlib.Omega.{arith}
 use lib.Dec.{ltb}
 use lib.ListN.{length, take, drop, length-take, length-drop}
@@ -20,7 +20,6 @@ use Rattle.phrase.specs.Reading.{read_command}
 use Rattle.phrase.specs.declared.WordsRead.TheVariants as Read
 use Rattle.phrase.proofs.Rows.{behind_two, echo_place, Begins, begins, row_of, row_begins, place_of}
 use Rattle.line.specs.declared.Frame.{Frame}
-use Rattle.line.specs.declared.Frame.TheVariants as Frame
 use Rattle.line.specs.declared.LineRead.{LineRead}
 use Rattle.line.specs.declared.LineRead.TheVariants.{Silent, Addressed}
 use Rattle.line.specs.Reading.{frame_of, starts_number, axis_digit, axis_of, address_of, read_words, framed, read_line, carried_by}

@@ -25,7 +25,6 @@ use Rattle.words.proofs.Content.{Plain, done, space, byte, content_cut, cut_cont
 use Rattle.line.specs.Spelling.{End, Footer, Checksum}
 use Rattle.line.specs.Reading.{printable, no_colon, is_end, is_footer, checked, parted, after_slash, frame_of}
 use Rattle.line.specs.declared.Frame.{Frame}
-use Rattle.line.specs.declared.Frame.TheVariants as Frame
 use Rattle.line.proofs.Frames.{low, high, between, colon_not, other_yes, tail_yes, tail_not, too_long_lem, no_slash, slash_first, parted_fits}
 
 -- ---- contents

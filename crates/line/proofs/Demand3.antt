@@ -30,7 +30,6 @@ use Rattle.phrase.specs.declared.WordsRead.TheVariants as Read
 use Rattle.phrase.proofs.Among.{◌also◌}
 use Rattle.phrase.proofs.Rows.{no_command, standing, bytes_standing, row_standing, row_read, row_echo, row_of, place_of}
 use Rattle.line.specs.declared.Frame.{Frame}
-use Rattle.line.specs.declared.Frame.TheVariants as Frame
 use Rattle.line.specs.declared.LineRead.TheVariants.{Addressed}
 use Rattle.line.specs.Spelling.{AxisWord, digit, Asked, Words, bare, addressed, with_axis, Line, line}
 use Rattle.line.specs.Reading.{frame_of, begins_number, starts_number, axis_digit, axis_of, address_of, read_words, read_content, framed, read_line, carried_by, asked_by, read_asked}

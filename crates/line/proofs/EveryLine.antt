@@ -27,7 +27,6 @@ use Rattle.phrase.specs.declared.WordsRead.{WordsRead}
 use Rattle.phrase.specs.declared.WordsRead.TheVariants as Read
 use Rattle.phrase.proofs.WordsNumbered.{Misspelt, misspelt_at, NumberedWords, words_numbered}
 use Rattle.line.specs.declared.Frame.{Frame}
-use Rattle.line.specs.declared.Frame.TheVariants as Frame
 use Rattle.line.specs.declared.LineRead.{LineRead}
 use Rattle.line.specs.declared.LineRead.TheVariants.{Silent, Addressed}
 use Rattle.line.specs.Spelling.{Asked, Words, Line, longest_line}

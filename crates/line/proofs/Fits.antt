@@ -17,7 +17,6 @@ use Rattle.numbers.proofs.Decimal.{digits_length, decimal_length}
 use Rattle.command.specs.declared.AxisSetting.TheVariants as AxisSetting
 use Rattle.command.specs.declared.DeviceSetting.TheVariants as DeviceSetting
 use Rattle.command.specs.declared.Setting.{Setting}
-use Rattle.command.specs.declared.Setting.TheVariants as Setting
 use Rattle.command.specs.declared.forms.Form.{Form}
 use Rattle.command.specs.Settings.{name_of}
 use Rattle.command.specs.Forms.{form_of}

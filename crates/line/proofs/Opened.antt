@@ -23,7 +23,6 @@ use Rattle.words.proofs.Cut.{word_whole, word_within, words_empty, words_full, w
 use Rattle.phrase.specs.Reading.{read_command}
 use Rattle.phrase.specs.declared.WordsRead.{WordsRead}
 use Rattle.line.specs.declared.Frame.{Frame}
-use Rattle.line.specs.declared.Frame.TheVariants as Frame
 use Rattle.line.specs.declared.Opening.{Opening}
 use Rattle.line.specs.declared.Opening.TheVariants.{Silent, Bare, To}
 use Rattle.line.specs.declared.LineRead.{LineRead}

@@ -29,7 +29,6 @@ use Rattle.line.specs.Reading.{printable, frame_of, starts_number, read_words, r
 use Rattle.line.specs.Refusals.{body, too_long, not_line, bad_sum, content, bad_address, own, words_in, refusal_of}
 use Rattle.line.specs.Place.{address_place, place_with, place_of}
 use Rattle.line.specs.declared.Frame.{Frame}
-use Rattle.line.specs.declared.Frame.TheVariants as Frame
 use Rattle.line.specs.declared.LineRead.{LineRead}
 use Rattle.line.specs.declared.LineRead.TheVariants.{Silent, Addressed}
 use Rattle.line.specs.declared.Opening.{Opening}

@@ -19,7 +19,6 @@ use Rattle.numbers.specs.Reading.{read_pair, says_sum}
 use Rattle.line.specs.Reading.{no_colon, parted}
 use Rattle.line.specs.Refusals.{checksum_right, bad_sum, content}
 use Rattle.line.specs.declared.Frame.{Frame}
-use Rattle.line.specs.declared.Frame.TheVariants as Frame
 use Rattle.line.proofs.Frames.{colon_not, no_sum, not_3, sum_is}
 use Rattle.line.proofs.Composed.{stop_byte}
 

@@ -9,13 +9,13 @@ use native.Mathlib.Omega.{arith}
 use lib.ListN.{length, take, drop}
 use lib.Seq.{length-take-le, take-take}
 use Rattle.laws.specs.Lists.{any}
-use Rattle.laws.specs.Refusals.{◌when◌, first_of, BADADDRESS, BADDATA, NOWHERE, in_byte}
+use Rattle.laws.specs.Refusals.{first_of, BADADDRESS, BADDATA, NOWHERE, in_byte}
 use Rattle.laws.proofs.Each.{OneOf}
 use Rattle.numbers.specs.Place.{ANumber, AnAddress}
 use Rattle.numbers.specs.Reading.{read_address}
 use Rattle.numbers.specs.declared.UnsignedRead.TheVariants as Unsigned
 use Rattle.numbers.proofs.Places.{address_refused_lem}
-use Rattle.words.specs.Cutting.{Placed, behind, bytes_of, words_at}
+use Rattle.words.specs.Cutting.{Placed, bytes_of}
 use Rattle.words.proofs.Cut.{one_stands}
 use Rattle.command.specs.Commands.{table}
 use Rattle.phrase.specs.Reading.{read_command}
@@ -31,7 +31,6 @@ use Rattle.line.specs.Reading.{frame_of, starts_number, read_words, read_line, n
 use Rattle.line.specs.Refusals.{own, words_in, refusal_of}
 use Rattle.line.specs.Place.{place_of}
 use Rattle.line.specs.declared.Frame.{Frame}
-use Rattle.line.specs.declared.Frame.TheVariants as Frame
 use Rattle.line.specs.declared.LineRead.{LineRead}
 use Rattle.line.specs.declared.LineRead.TheVariants.{Silent, Addressed}
 use Rattle.line.proofs.ByWords.{Own, by_words}

@@ -6,7 +6,6 @@ use Rattle.laws.specs.Text.{colon}
 use Rattle.laws.specs.Refusals.{NOTLINE, BADSUM}
 use Rattle.line.specs.Reading.{printable, no_colon, parted}
 use Rattle.line.specs.declared.Frame.{Frame}
-use Rattle.line.specs.declared.Frame.TheVariants as Frame
 
 -- a byte that a content may have
 unfoldable pub plain : ℕ → Bool

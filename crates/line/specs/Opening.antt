@@ -11,7 +11,6 @@ use Rattle.numbers.specs.declared.UnsignedRead.TheVariants as Unsigned
 use Rattle.words.specs.Cutting.{Placed, behind, words_at}
 use Rattle.phrase.specs.Reading.{read_command}
 use Rattle.line.specs.declared.Frame.{Frame}
-use Rattle.line.specs.declared.Frame.TheVariants as Frame
 use Rattle.line.specs.declared.Opening.{Opening}
 use Rattle.line.specs.declared.Opening.TheVariants.{Silent, Bare, To}
 use Rattle.line.specs.declared.LineRead.{LineRead}

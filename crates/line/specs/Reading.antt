@@ -16,7 +16,6 @@ use Rattle.phrase.specs.Reading.{read_command}
 use Rattle.phrase.specs.Place.{place_told}
 use Rattle.phrase.specs.declared.WordsRead.TheVariants as Words
 use Rattle.line.specs.declared.Frame.{Frame}
-use Rattle.line.specs.declared.Frame.TheVariants as Frame
 use Rattle.line.specs.declared.LineRead.{LineRead}
 use Rattle.line.specs.declared.LineRead.TheVariants.{Silent, Addressed}
 use Rattle.line.specs.Spelling.{Asked, longest_line}

@@ -1,14 +1,13 @@
 -- Where a place is told with 11, a number's word of the command refuses there; where none is told, the words fit no row but for numbers.
 -- Assumes nothing.
-use mathlib.Core.Path.{◌≡◌, refl, sym, ◌∙◌}
+use mathlib.Core.Path.{◌≡◌, refl}
 use mathlib.Core.Logic.{◌⊎◌, inl, inr, ⊎_elim}
 use mathlib.Core.Bool.{Bool, true, false, cond, not, ◌&&◌, ◌||◌}
 use mathlib.Core.List.{List, [], ◌∷◌, ◌++◌}
-use Prim.Native.Nat.{ℕ, suc, ◌+◌, ◌≤◌, ◌<◌}
+use Prim.Native.Nat.{ℕ, suc, ◌+◌, ◌≤◌}
 use native.Mathlib.Omega.{arith}
 use lib.ListN.{length, take, drop}
 use Rattle.laws.specs.Lists.{fold, any}
-use Rattle.laws.specs.Text.{text, same}
 use Rattle.laws.specs.Refusals.{NOWHERE, in_byte}
 use Rattle.laws.proofs.Bools.{and_left, and_right, clash}
 use Rattle.laws.proofs.Each.{OneOf, first, later}

@@ -19,7 +19,6 @@ use Rattle.words.specs.Spelling.{WordByte, Word}
 use Rattle.command.specs.declared.AxisSetting.TheVariants as AxisSetting
 use Rattle.command.specs.declared.DeviceSetting.TheVariants as DeviceSetting
 use Rattle.command.specs.declared.Setting.{Setting}
-use Rattle.command.specs.declared.Setting.TheVariants as Setting
 use Rattle.command.specs.declared.Target.TheVariants.{Abs, Rel, Min, Max, Stored}
 use Rattle.command.specs.declared.AxisCommand.TheVariants as Axis
 use Rattle.command.specs.declared.DeviceCommand.TheVariants as Device

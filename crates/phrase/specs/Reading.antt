@@ -12,7 +12,6 @@ use Rattle.numbers.specs.declared.NumberRead.TheVariants as Number
 use Rattle.words.specs.Cutting.{Placed, behind}
 use Rattle.words.specs.Find.{Entry, ◌means◌, meaning_of}
 use Rattle.command.specs.declared.Setting.{Setting}
-use Rattle.command.specs.declared.Setting.TheVariants as Setting
 use Rattle.command.specs.declared.Target.TheVariants.{Abs, Rel, Min, Max, Stored}
 use Rattle.command.specs.declared.AxisCommand.TheVariants.{Nothing, Home, Stop, Estop, MoveTo, MoveVel, Storepos, StoreposAt, StoreposCurrent, Warnings, WarningsClear}
 use Rattle.command.specs.declared.DeviceCommand.TheVariants.{ParkingState, Park, Unpark, Echo, Help}

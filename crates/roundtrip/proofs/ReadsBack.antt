@@ -5,7 +5,6 @@ use mathlib.Core.Bool.{Bool, true, false, ◌||◌}
 use mathlib.Core.List.{List, ◌++◌, append_assoc}
 use mathlib.Core.Option.{some}
 use Prim.Native.Nat.{ℕ, ◌≤◌, ◌<◌}
-use native.Mathlib.Nat.{mod-eq_of_lt}
 use native.Mathlib.Omega.{arith}
 use lib.Dec.{eqb, ltb}
 use lib.ListN.{length, take}
@@ -14,11 +13,8 @@ use borrow.Author.Tests.{ltb-false, eq-eqb, eqb-true}
 use Rattle.laws.specs.Text.{text, spaced}
 use Rattle.laws.specs.Refusals.{first_of}
 use Rattle.laws.proofs.Bools.{clash, or_left, or_right}
-use Rattle.laws.proofs.Each.{more}
 use Rattle.numbers.specs.Checksum.{checksum, sum_text}
-use Rattle.numbers.specs.Decimal.{last_digit, digits}
-use Rattle.numbers.specs.Spelling.{Digit}
-use Rattle.numbers.proofs.Decimal.{digits_one, address_spelled, pair_spelled}
+use Rattle.numbers.proofs.Decimal.{pair_spelled}
 use Rattle.command.specs.declared.Command.{Command}
 use Rattle.line.specs.Spelling.{Checksum, Asked, Line}
 use Rattle.line.specs.Reading.{read_asked}

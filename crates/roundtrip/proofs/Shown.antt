@@ -31,11 +31,9 @@ use Rattle.reply.specs.Data.{values}
 use Rattle.host_reader.specs.Spelling.{Data}
 use Rattle.view.specs.View.{value_in, values_of, warnings_of}
 use Rattle.view.specs.declared.Value.{Value}
-use Rattle.view.specs.declared.Value.TheVariants as Value
 use Rattle.view.specs.Data.{setting_data, parked_data, text_of, data_of}
 use Rattle.command.specs.declared.forms.Form.{Form}
 use Rattle.command.specs.declared.kinds.Data.{Data as Kind}
-use Rattle.command.specs.declared.kinds.Data.TheVariants as Kind
 use Rattle.command.specs.Forms.{form_of}
 use Rattle.command.specs.Commands.{demands}
 use Rattle.rules.proofs.GoodStays.{good_count}

@@ -27,7 +27,6 @@ use Rattle.reply.specs.Told.{four_of, listed_of, carried, told_text, informs}
 use Rattle.view.specs.View.{value_in, values_of, axis_at, listed_for}
 use Rattle.view.specs.Data.{setting_data, parked_data, text_of, setting_told, told_of}
 use Rattle.view.specs.declared.Value.{Value}
-use Rattle.view.specs.declared.Value.TheVariants as Value
 
 -- ---- lists of what a function makes of each element
 pub unmapped : (X Y : Type 0) (f : X → Y) (xs : List X) (n : ℕ) → length (map f xs) ≡ n → length xs ≡ n

@@ -15,7 +15,6 @@ use Rattle.device.specs.declared.Device.{Device}
 use Rattle.device.specs.Record.{value}
 use Rattle.reply.specs.Data.{values, warning_list, echoed}
 use Rattle.reply.specs.declared.told.Told.{Told}
-use Rattle.reply.specs.declared.told.Told.TheVariants as Told
 use Rattle.view.specs.View.{values_of, warnings_of, listed_for}
 use Rattle.view.specs.declared.Value.TheVariants as Value
 

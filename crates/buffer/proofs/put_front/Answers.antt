@@ -1,9 +1,8 @@
 -- Invariant: the first i bytes of the text are written, and the next one goes to `next`.
-use Prim.Native.Nat.{◌-◌}
 use native.Mathlib.Omega.{arith}
 use borrow.Author.Rules.{rules}
 use lib.Seq.{take_all}
-use Rattle.buffer.proofs.Wrote.{wrote_none, wrote_more, wrote_length}
+use Rattle.buffer.proofs.Wrote.{wrote_none, wrote_more}
 use Rattle.buffer.proofs.put_front.Goals as goal
 
 pub loop-i-init : goal.loop-i-init

@@ -1,5 +1,4 @@
 -- Invariant: the first i bytes of the text are written, and the next one goes i places behind `at`.
-use Prim.Native.Nat.{◌-◌}
 use native.Mathlib.Omega.{arith}
 use borrow.Author.Rules.{rules}
 use lib.Seq.{take_all}

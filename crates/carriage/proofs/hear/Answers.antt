@@ -2,7 +2,6 @@
 use mathlib.Core.Path.{ap}
 use mathlib.Core.Bool.{not}
 use Rattle.carriage.proofs.Heard.{heard_small, heard_bad, heard_foreign, heard_line}
-use borrow.Author.Rules.{rules}
 use Rattle.carriage.proofs.hear.Goals as goal
 
 pub returns-then-room-lt-LONGEST_REPLY : goal.returns-then-room-lt-LONGEST_REPLY

@@ -1,8 +1,7 @@
 -- Invariant: the lines before the place i are written, and the next goes to `next`; each has 96 bytes at most.
-use Prim.Native.Nat.{◌-◌}
 use native.Mathlib.Omega.{arith}
 use Rattle.buffer.proofs.Wrote.{wrote_length}
-use Rattle.reply.proofs.HelpTexts.{before, infos_first, infos_more, infos_end}
+use Rattle.reply.proofs.HelpTexts.{infos_first, infos_more, infos_end}
 use Rattle.carriage.proofs.InfoLines.{line_within}
 use Rattle.carriage.proofs.put_infos.Goals as goal
 

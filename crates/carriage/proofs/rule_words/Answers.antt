@@ -1,5 +1,4 @@
 -- The reader's refusal, or the first that its command meets.
-use Rattle.carriage.proofs.Rulings.{ruled_accepted, ruled_rejected}
 use Rattle.carriage.proofs.rule_words.Goals as goal
 
 pub returns-in-Refused : goal.returns-in-Refused

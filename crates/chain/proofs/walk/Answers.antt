@@ -4,7 +4,7 @@ use mathlib.Core.Path.{◌≡◌, refl, sym, ◌∙◌}
 use Prim.Native.Nat.{◌+◌, ◌<◌}
 use lib.ListN.{length, take}
 use Rattle.chain.specs.Walk.{run}
-use Rattle.chain.proofs.Walks.{run_fits, run_to, halfway, halfway_length, halfway_all, heeded, unmoved}
+use Rattle.chain.proofs.Walks.{run_fits, run_to, halfway, heeded, unmoved}
 use Rattle.chain.proofs.walk.Goals as goal
 use Rattle.chain.proofs.walk.Goals.{then-heeds, else-heeds}
 

@@ -1,11 +1,10 @@
 -- The answers of the chain are printed, and its next records go on.
 use mathlib.Core.Path.{◌≡◌, sym}
-use Prim.Native.Nat.{◌*◌}
-use lib.ListN.{length, replicate}
+use lib.ListN.{length}
 use Rattle.view.proofs.Telling.{unmapped}
 use native.Mathlib.Omega.{arith}
 use lib.Seq.{length-take-le}
-use Rattle.chain_session.proofs.Turns.{refilled, took_line}
+use Rattle.chain_session.proofs.Turns.{took_line}
 use borrow.Author.Rules.{rules}
 use Rattle.chain_session.proofs.line_turn.Goals as goal
 

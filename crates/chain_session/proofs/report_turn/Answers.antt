@@ -1,6 +1,5 @@
 -- The report's number and its alert are printed, and the chain goes on.
 use Rattle.chain_session.proofs.Turns.{took_report}
-use borrow.Author.Rules.{rules}
 use Rattle.chain_session.proofs.report_turn.Goals as goal
 
 pub returns : goal.returns

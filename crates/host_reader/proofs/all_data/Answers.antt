@@ -1,6 +1,5 @@
 -- `host_reader::all_data` meets its contract: the bytes passed and those left make up the whole.
 use mathlib.Core.Path.{refl}
-use Prim.Native.Nat.{◌-◌}
 use native.Mathlib.Omega.{arith}
 use Rattle.laws.proofs.Folds.{all_more, all_end}
 use Rattle.host_reader.specs.Reading.{data_byte}

@@ -1,5 +1,4 @@
 -- `numbers::checksum` meets its contract. Invariant: what is summed, with what is left, is the whole, modulo 256.
-use Prim.Native.Nat.{◌-◌}
 use native.Mathlib.Omega.{arith}
 use Rattle.numbers.specs.Checksum.{checksum}
 use Rattle.numbers.proofs.Sum.{total_more, total_end}

@@ -1,6 +1,5 @@
 -- `session::report_turn` meets its contract: the report's number and its alert are printed, and its next record goes on.
 use Rattle.session.proofs.Turns.{took_report}
-use borrow.Author.Rules.{rules}
 use Rattle.session.proofs.report_turn.Goals as goal
 
 pub returns : goal.returns

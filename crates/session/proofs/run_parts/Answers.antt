@@ -1,7 +1,5 @@
 -- `session::run_parts` meets its contract. Invariant: what is printed, with what the parts from `at` on print, is the whole.
-use Prim.Native.Nat.{◌-◌}
 use native.Mathlib.Omega.{arith}
-use Rattle.buffer.proofs.Wrote.{wrote_length}
 use Rattle.input.proofs.Parted.{part_past, part_inside}
 use Rattle.session.proofs.Turns.{running_first, running_more, running_end}
 use Rattle.session.proofs.run_parts.Goals as goal

@@ -1,5 +1,4 @@
 -- The invariant: what was tested so far, and the test of the rest, are the test of all.
-use Prim.Native.Nat.{◌-◌}
 use mathlib.Core.Path.{◌≡◌, refl}
 use native.Mathlib.Omega.{arith}
 use borrow.Author.Rules.{rules}

@@ -1,5 +1,4 @@
 -- The invariant: what was found so far, and what is to be found of the rest, are the goodness of all.
-use Prim.Native.Nat.{◌-◌}
 use mathlib.Core.Path.{◌≡◌, refl, sym, ap, ◌∙◌}
 use native.Mathlib.Omega.{arith}
 use borrow.Author.Rules.{rules}

@@ -1,11 +1,6 @@
 -- Each place is set where the stretch covers it, and the stretch is of the places that the number means.
 use mathlib.Core.Path.{◌≡◌, refl, sym, ◌∙◌}
-use mathlib.Core.Logic.{⊎_elim}
-use mathlib.Core.List.{List}
-use Prim.Native.Nat.{◌-◌}
 use lib.ListN.{length}
-use Rattle.laws.specs.Lists.{change_from}
-use Rattle.axis.specs.declared.Axis.{Axis}
 use Rattle.axis.specs.Commands.{axis_after}
 use Rattle.device.proofs.Stretches.{stretch_inside, stretch_change}
 use Rattle.device.proofs.Four.{Placed, set_there, left_there, change_stretch}

@@ -1,6 +1,5 @@
 -- `host_reader::reading::content_end` meets its contract: what is passed and what is left make up the whole.
 use mathlib.Core.Path.{refl, sym, ◌∙◌}
-use Prim.Native.Nat.{◌-◌}
 use native.Mathlib.Omega.{arith}
 use Rattle.laws.proofs.Span.{passed, stopped, ended}
 use Rattle.host_reader.specs.Reading.{data_byte, content_end}

@@ -1,6 +1,5 @@
 -- `host_reader::reading::read_message` meets its contract: too long a line, a message, or none.
 use Rattle.host_reader.proofs.Answers.{too_long, is_message_lem, no_message, told}
-use borrow.Author.Rules.{rules}
 use Rattle.host_reader.proofs.reading.read_message.Goals as goal
 
 pub returns-then-line-gt-LONGEST_REPLY : goal.returns-then-line-gt-LONGEST_REPLY

@@ -1,10 +1,5 @@
 -- `host_writer::names::put_message` meets its contract. Invariant: what is written, with the words that are left, is the whole.
-use mathlib.Core.Path.{◌≡◌}
-use mathlib.Core.List.{◌∷◌}
-use lib.ListN.{drop}
-use Rattle.words.specs.Cutting.{cut}
 use Rattle.words.proofs.Cut.{word_none, word_some}
-use Rattle.buffer.proofs.Wrote.{wrote_length}
 use Rattle.reply.proofs.Writing.{writing_first, writing_more, writing_end}
 use Rattle.host_writer.proofs.RowWalks.{no_words, fewer}
 use Rattle.host_writer.proofs.names.put_message.Goals as goal

@@ -1,11 +1,7 @@
 -- `host_writer::names::put_setting` meets its contract: the name stands in the text at the setting's place.
-use mathlib.Core.Path.{◌≡◌}
-use lib.ListN.{drop}
 use Rattle.laws.specs.Text.{text}
-use Rattle.words.specs.Cutting.{is_space, no_space, grow_at, words_from, cut, head_word}
-use Rattle.host_writer.specs.Names.{names}
+use Rattle.words.specs.Cutting.{is_space, no_space, grow_at, words_from, cut}
 use Rattle.host_writer.proofs.RowTexts.{name_is}
-use borrow.Author.Rules.{rules}
 use Rattle.host_writer.proofs.names.put_setting.Goals as goal
 
 pub returns : goal.returns

@@ -1,13 +1,9 @@
 -- `host_writer::rows::put_place` meets its contract: what stands for each name, or the word itself.
-use mathlib.Core.Path.{◌≡◌}
-use mathlib.Core.List.{map, append-nil}
-use Prim.Native.Nat.{◌≤◌}
+use mathlib.Core.List.{append-nil}
 use native.Mathlib.Omega.{arith}
 use Rattle.laws.specs.Text.{text}
 use Rattle.laws.proofs.Spaced.{trail}
 use Rattle.words.specs.Cutting.{is_space, no_space, grow_at, words_from, cut}
-use Rattle.words.specs.Find.{index}
-use Rattle.host_writer.specs.Rows.{carried}
 use Rattle.host_writer.proofs.RowWalks.{stands, stands_itself}
 use Rattle.host_writer.proofs.rows.put_place.Goals as goal
 

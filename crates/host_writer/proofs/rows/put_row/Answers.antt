@@ -1,12 +1,7 @@
 -- `host_writer::rows::put_row` meets its contract. Invariant: what is written, with what is left of the row, is the whole.
-use mathlib.Core.Path.{◌≡◌, refl}
-use mathlib.Core.Logic.{⊎_elim}
-use mathlib.Core.List.{◌∷◌}
+use mathlib.Core.Path.{refl}
 use native.Mathlib.Omega.{arith}
-use lib.ListN.{drop}
-use Rattle.words.specs.Cutting.{cut}
 use Rattle.words.proofs.Cut.{word_none, word_some}
-use Rattle.buffer.proofs.Wrote.{wrote_length}
 use Rattle.reply.proofs.Writing.{writing_first}
 use Rattle.host_writer.proofs.RowWalks.{no_words, fewer, walk_none, walk_ends, walk_next, walk_later, walk_more}
 use Rattle.host_writer.proofs.rows.put_row.Goals as goal

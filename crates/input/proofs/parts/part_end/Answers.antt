@@ -1,6 +1,5 @@
 -- `input::parts::part_end` meets its contract. Invariant: the part from i on ends where the part from `at` on ends.
 use mathlib.Core.Path.{refl, ◌∙◌}
-use Prim.Native.Nat.{◌-◌}
 use native.Mathlib.Omega.{arith}
 use Rattle.input.proofs.Parted.{part_stop, part_on, part_end}
 use Rattle.input.proofs.parts.part_end.Goals as goal

@@ -1,9 +1,7 @@
 -- Invariant: so many spaces are written, and the next byte goes to `next`.
-use mathlib.Core.Path.{◌∙◌}
-use Prim.Native.Nat.{◌-◌}
 use native.Mathlib.Omega.{arith}
 use Rattle.laws.specs.Text.{text}
-use Rattle.buffer.proofs.Wrote.{wrote_none, wrote_length}
+use Rattle.buffer.proofs.Wrote.{wrote_none}
 use Rattle.input.proofs.Prints.{caret_none, caret_more, caret_end}
 use Rattle.input.proofs.parts.put_caret.Goals as goal
 

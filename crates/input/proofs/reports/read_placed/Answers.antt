@@ -1,6 +1,5 @@
 -- `input::reports::read_placed` meets its contract: the place and three numbers behind `R`.
 use Rattle.input.proofs.ReportLines.{placed_told}
-use borrow.Author.Rules.{rules}
 use Rattle.input.proofs.reports.read_placed.Goals as goal
 
 pub returns : goal.returns

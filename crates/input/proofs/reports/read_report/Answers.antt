@@ -1,6 +1,5 @@
 -- `input::reports::read_report` meets its contract: three numbers behind `R`.
 use Rattle.input.proofs.ReportLines.{report_told}
-use borrow.Author.Rules.{rules}
 use Rattle.input.proofs.reports.read_report.Goals as goal
 
 pub returns : goal.returns

@@ -3,7 +3,6 @@ use lib.ListN.{drop}
 use Rattle.words.specs.Cutting.{cut}
 use Rattle.words.proofs.Cut.{left_none, left_some}
 use Rattle.input.proofs.ReportLines.{too_many, just_three}
-use borrow.Author.Rules.{rules}
 use Rattle.input.proofs.reports.three_at.Goals as goal
 
 pub returns-then-start_of-s : goal.returns-then-start_of-s

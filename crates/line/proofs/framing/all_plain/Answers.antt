@@ -1,6 +1,5 @@
 -- Invariant: what is found so far, and what is left, say together whether all bytes pass.
 use mathlib.Core.Path.{refl}
-use Prim.Native.Nat.{◌-◌}
 use native.Mathlib.Omega.{arith}
 use Rattle.laws.proofs.Folds.{all_more, all_end}
 use Rattle.line.specs.Reading.{printable, no_colon}

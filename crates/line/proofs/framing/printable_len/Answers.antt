@@ -1,6 +1,5 @@
 -- Invariant: what is passed from i on, behind i, ends where what is passed from the front on ends.
 use mathlib.Core.Path.{sym, ◌∙◌}
-use Prim.Native.Nat.{◌-◌}
 use native.Mathlib.Omega.{arith}
 use Rattle.laws.proofs.Span.{passed, stopped, ended}
 use Rattle.line.specs.Reading.{printable}

@@ -1,7 +1,6 @@
 -- Silence, or what stands behind the opening: with no address, or with one.
 use Rattle.line.proofs.Opened.{on_bare, on_to}
 use Rattle.line.proofs.Refused.{answered}
-use borrow.Author.Rules.{rules}
 use Rattle.line.proofs.reading.read_line.Goals as goal
 
 pub returns-in-Silent : goal.returns-in-Silent

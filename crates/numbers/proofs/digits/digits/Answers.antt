@@ -1,5 +1,4 @@
 -- `numbers::digits::digits` meets its contract. Invariant: reading on from i with n is reading from the first place on.
-use Prim.Native.Nat.{◌-◌}
 use native.Mathlib.Omega.{arith}
 use Rattle.numbers.proofs.Scan as scan-laws
 use Rattle.numbers.proofs.Value.{value_small}

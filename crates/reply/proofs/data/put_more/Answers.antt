@@ -2,7 +2,7 @@
 use lib.ListN.{drop}
 use Rattle.words.specs.Cutting.{cut}
 use Rattle.words.proofs.Cut.{word_whole, word_within, word_empty, word_full}
-use Rattle.buffer.proofs.Wrote.{◌▸◌, wrote_length}
+use Rattle.buffer.proofs.Wrote.{◌▸◌}
 use Rattle.reply.proofs.Writing.{writing_first, writing_end}
 use Rattle.reply.proofs.Lists.{echo_turn, echo_end, echo_full}
 use Rattle.reply.proofs.data.put_more.Goals as goal

@@ -1,8 +1,6 @@
 -- `reply::data::put_warnings` meets its contract. Invariant: what the loop has written, with the names that are left, is the whole.
-use mathlib.Core.Logic.{⊎_elim}
-use Prim.Native.Nat.{◌-◌}
 use native.Mathlib.Omega.{arith}
-use Rattle.buffer.proofs.Wrote.{◌▸◌, wrote_length}
+use Rattle.buffer.proofs.Wrote.{◌▸◌}
 use Rattle.reply.proofs.Writing.{writing_first, writing_end}
 use Rattle.reply.proofs.Lists.{list_split, names_yes, names_no, names_end}
 use Rattle.reply.proofs.data.put_warnings.Goals as goal

@@ -1,7 +1,6 @@
 -- Each text behind a space, or nothing beyond the last.
 use native.Mathlib.Omega.{arith}
 use Rattle.laws.specs.Text.{text}
-use Rattle.laws.proofs.Order.{beyond}
 use Rattle.laws.proofs.Spaced.{trail}
 use Rattle.buffer.proofs.Wrote.{wrote_none}
 use Rattle.reply.specs.Help.{help_texts}

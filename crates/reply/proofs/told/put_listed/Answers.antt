@@ -1,8 +1,5 @@
 -- `reply::told::put_listed` meets its contract. Invariant: the first n of the values that are listed are written.
-use mathlib.Core.Logic.{⊎_elim}
-use Prim.Native.Nat.{◌-◌}
 use native.Mathlib.Omega.{arith}
-use Rattle.buffer.proofs.Wrote.{wrote_length}
 use Rattle.reply.proofs.Telling.{listed_start, listed_first, listed_next, listed_end}
 use Rattle.reply.proofs.told.put_listed.Goals as goal
 use Rattle.reply.proofs.told.put_listed.Goals.{then-n-gt0, else-n-gt0}

@@ -1,7 +1,5 @@
 -- `reply::told::put_told` meets its contract: each kind of what is told by its writer.
-use native.Mathlib.Omega.{arith}
 use Rattle.laws.specs.Text.{text}
-use Rattle.reply.proofs.Texts.{bit_small}
 use Rattle.reply.proofs.Telling.{parked_is}
 use Rattle.reply.proofs.told.put_told.Goals as goal
 

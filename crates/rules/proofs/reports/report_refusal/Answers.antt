@@ -1,10 +1,8 @@
 -- The table of two rows, row by row.
 use mathlib.Core.Path.{sym, ◌∙◌}
 use Rattle.laws.specs.Refusals.{first_of}
-use Rattle.laws.proofs.Bools.{not_false}
 use Rattle.rules.specs.Reports.{report_refusal}
 use Rattle.rules.proofs.GoodStays.{good_count}
-use borrow.Author.Rules.{rules}
 use Rattle.rules.proofs.reports.report_refusal.Goals as goal
 
 pub returns-then-not-g : goal.returns-then-not-g

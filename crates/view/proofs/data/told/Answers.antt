@@ -1,9 +1,5 @@
 -- `view::data::told` meets its contract: each kind of data, taken out of the record.
-use mathlib.Core.Path.{◌≡◌}
-use lib.ListN.{length}
 use Rattle.view.specs.View.{warnings_of}
-use Rattle.view.proofs.Telling.{unmapped}
-use borrow.Author.Rules.{rules}
 use Rattle.view.proofs.data.told.Goals as goal
 
 pub returns-in-Active-clause-told : goal.returns-in-Active-clause-told
