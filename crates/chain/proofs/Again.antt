@@ -71,11 +71,11 @@ module _ (R : RattleType) (κ κ' : Lft) (q : Share) (γ : GName) (b o : ℕ) wh
         ) $ fjoin ! $ done !
 
     -- the same where the count is m, which the list's length is known to be
-    pub lends-at : (m : ℕ) → length ys ≡ m → ent 𝓤 (sep 𝓤 (sem 𝓛 ((MutSlice ℓ κ R).own_val (at_list γ ys) (slice_val (b, o) m ∷ [])))
+    pub lends_at : (m : ℕ) → length ys ≡ m → ent 𝓤 (sep 𝓤 (sem 𝓛 ((MutSlice ℓ κ R).own_val (at_list γ ys) (slice_val (b, o) m ∷ [])))
         (A.lft κ q))
         (H.⇛ (ex 𝓤 (λ (γ₁ : GName). sep 𝓤 (sem 𝓛 ((MutSlice ℓ' κ' R).own_val (at_list γ₁ ys) (slice_val (b, o) m ∷ [])))
         (sem 𝓛 (LentAgain γ₁ ys)))))
-    lends-at m e = subst (λ (k : ℕ). ent 𝓤 (sep 𝓤 (sem 𝓛 ((MutSlice ℓ κ R).own_val (at_list γ ys) (slice_val (b, o) k ∷ []))) (A.lft κ q))
+    lends_at m e = subst (λ (k : ℕ). ent 𝓤 (sep 𝓤 (sem 𝓛 ((MutSlice ℓ κ R).own_val (at_list γ ys) (slice_val (b, o) k ∷ []))) (A.lft κ q))
         (H.⇛ (ex 𝓤 (λ (γ₁ : GName). sep 𝓤 (sem 𝓛 ((MutSlice ℓ' κ' R).own_val (at_list γ₁ ys) (slice_val (b, o) k ∷ [])))
         (sem 𝓛 (LentAgain γ₁ ys)))))) e lends_again
 

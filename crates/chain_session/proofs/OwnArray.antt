@@ -2,7 +2,7 @@
 -- back with what
 -- the call left in their place. It says nothing of the crate. T is plain: what its values own is had for nothing.
 --     Lender           what the holder keeps meanwhile: the lender's part at κ, and the other elements
---     lends-array      the array at (b, 0)  ⊢ ⇛ ∃ γ. own (the `&κ mut [T]` ((b, 0), γ, the first n)) ∗ Lender γ
+--     lends_array      the array at (b, 0)  ⊢ ⇛ ∃ γ. own (the `&κ mut [T]` ((b, 0), γ, the first n)) ∗ Lender γ
 --     array_back       [†κ] ∗ Lender γ ∗ finally γ zs  ⊢ ⇛ (the array of zs and the others at (b, 0))
 -- Assumes `Logic`.
 use mathlib.Core.Path.{◌≡◌, refl, sym, ap, subst, ◌∙◌}
@@ -56,12 +56,12 @@ module _ (R : RattleType) (one : Single R.mir) (k b : ℕ) where
     module _ {M : Type 1} {𝓤 : Ura M} (𝓛 : Logic 𝓤) (mk : Makes 𝓛 R (Is R)) (few : n ≤ length xs) where
       open 𝓛 use {H, A}
 
-      pub lends-array : (ℓ : Lifetime) (v : Val) → Is Whole xs (v ∷ []) → Room R n
+      pub lends_array : (ℓ : Lifetime) (v : Val) → Is Whole xs (v ∷ []) → Room R n
           → ent 𝓤 (H.at full_share whole_ty b 0 v)
           (H.⇛ (ex 𝓤 (λ (γ : GName). sep 𝓤 (sem 𝓛 ((MutSlice ℓ κ R).own_val (at_list γ front) (slice_val (b, 0) n ∷ [])))
           (sem 𝓛 (Lender γ)))))
       unfolding part_of
-      lends-array ℓ v is room =
+      lends_array ℓ v is room =
           let long : length front ≡ n = length-take-le n xs few in
           qed 𝓛 (‵ (fat full_share whole_ty b 0 v) ∷ []) ∵ updating ! $
           use1 𝓛 (‵ (cell_at full_share (whole_ty ∷ []) (v ∷ []) b 0)) (𝓛.laws.at_raw full_share whole_ty b 0 v) $
