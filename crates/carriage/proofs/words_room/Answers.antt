@@ -1,10 +1,6 @@
 -- 96 bytes, or 1,152 where the row of the command has info lines.
 use Rattle.carriage.proofs.AnswerRoom.{informing_room, plain_room}
-use borrow.Author.Rules.{rules}
 use Rattle.carriage.proofs.words_room.Goals as goal
-
-pub returns-in-Refused : goal.returns-in-Refused
-returns-in-Refused c = search rules
 
 pub returns-then-informs : goal.returns-then-informs
 returns-then-informs c =

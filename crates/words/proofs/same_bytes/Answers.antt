@@ -10,12 +10,6 @@ returns-then-a-b c = sym (other_length _ _ c.if-a-b.true)
 pub loop-i-init : goal.loop-i-init
 loop-i-init c = refl
 
-pub bounds-a-i : goal.bounds-a-i
-bounds-a-i c = omega arith
-
-pub bounds-b-i : goal.bounds-b-i
-bounds-b-i c = omega arith
-
 pub returns-then-a-i : goal.returns-then-a-i
 returns-then-a-i c =
     sym (same_stop _ _ _ c.loop-i-test.true (omega arith) c.if-a-i.true) ∙ c.loop-i.invariant

@@ -1,5 +1,4 @@
 -- Each arm gives its row of the table.
-use borrow.Author.Rules.{rules}
 use Rattle.carriage.proofs.effects.put.Goals as goal
 
 pub returns-in-CommAddress : goal.returns-in-CommAddress
@@ -13,9 +12,3 @@ returns-in-CommChecksum c = simp c.in-CommChecksum.is
 
 pub returns-in-SystemAccess : goal.returns-in-SystemAccess
 returns-in-SystemAccess c = simp c.in-SystemAccess.is
-
-pub returns-in-DeviceId : goal.returns-in-DeviceId
-returns-in-DeviceId c = search rules
-
-pub returns-in-SystemAxisCount : goal.returns-in-SystemAxisCount
-returns-in-SystemAxisCount c = search rules

@@ -1,6 +1,0 @@
--- Info lines alone stand behind the reply.
-use borrow.Author.Rules.{rules}
-use Rattle.command.proofs.kinds.Data.informs.Goals as goal
-
-pub returns-in-Info : goal.returns-in-Info
-returns-in-Info c = search rules
