@@ -1,6 +1,5 @@
 -- The line's own number; or none that answered, or some.
 use Rattle.chain.proofs.Chains.{told_silent, told_none, told_some}
-use borrow.Author.Rules.{rules}
 use Rattle.chain.proofs.finish.Goals as goal
 
 pub returns-in-Silent : goal.returns-in-Silent
