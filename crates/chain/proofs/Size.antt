@@ -1,4 +1,5 @@
--- How many bytes a record takes in memory: all that the walks over lent records know of it. A field more changes this number.
+-- How many bytes a record took in memory, with the older kit: of the time when the walks over lent records were followed by hand.
+-- No proof cites it now.
 -- Assumes nothing.
 use Prim.Native.Nat.{ℕ}
 
