@@ -14,32 +14,25 @@ pub struct Word {
     pub end: usize,
 }
 
+// The bytes from at on.
+fn rest(s: &[u8], at: usize) -> &[u8]
+    ensures { result.now ≡ drop at s.now }
+{
+    s.get(at..).unwrap_or(&[])
+}
+
 // The first place from at on that has no space.
 pub fn start_of(s: &[u8], at: usize) -> usize
     ensures { result ≡ start_of s.now at }
 {
-    let mut start = at;
-    while start < s.len() {
-        if s[start] != b' ' {
-            return start;
-        }
-        start += 1;
-    }
-    start
+    at + rest(s, at).iter().take_while(|byte| **byte == b' ').count()
 }
 
 // The first place from at on that has a space, or the end.
 fn word_end(s: &[u8], at: usize) -> usize
     ensures { result ≡ end_of s.now at }
 {
-    let mut i = at;
-    while i < s.len() {
-        if s[i] == b' ' {
-            return i;
-        }
-        i += 1;
-    }
-    i
+    at + rest(s, at).iter().take_while(|byte| **byte != b' ').count()
 }
 
 // The first word from at on.
@@ -74,20 +67,11 @@ pub fn past_word(s: &[u8], at: usize) -> usize
 }
 
 // Do a and b hold the same bytes?
+#[tactic(auto, using(laws::proofs::Same::same_is))]
 pub fn same_bytes(a: &[u8], b: &[u8]) -> bool
     ensures { result ≡ same a.now b.now }
 {
-    if a.len() != b.len() {
-        return false;
-    }
-    let mut i: usize = 0;
-    while i < a.len() {
-        if a[i] != b[i] {
-            return false;
-        }
-        i += 1;
-    }
-    true
+    a == b
 }
 
 // The place of w among the words of names, from 0, or how many these are where it is none of them.
@@ -114,12 +98,9 @@ pub fn find_word(w: &[u8], names: &[u8]) -> usize
 pub fn nth_word(s: &[u8], k: usize) -> &[u8]
     ensures { result.now ≡ head_word (drop k (cut s.now)) }
 {
-    let mut place: usize = 0;
-    let mut passed: usize = 0;
-    while passed < k {
-        place = word_at(s, place).end;
-        passed += 1;
+    let mut place = 0;
+    for _ in 0..k {
+        place = past_word(s, place);
     }
-    let Word { start, end } = word_at(s, place);
-    &s[start..end]
+    first_word(s, place)
 }

@@ -1,30 +1,20 @@
--- Invariant: what is passed from i on, behind i, ends where what is passed from at on ends.
-use mathlib.Core.Path.{refl, sym, ◌∙◌}
-use native.Mathlib.Omega.{arith}
+-- As many bytes from the place on as the library's `take_while` counts.
+use mathlib.Core.Path.{ap, ◌∙◌}
+use Prim.Native.Nat.{◌+◌}
+use Rattle.std.proofs.Common.{rules, tests}
+use Rattle.std.proofs.lemmas.Iterator.{YieldsList-from_slice}
+use Rattle.std.proofs.lemmas.Iterator.Consumers.{count_from_yields_List}
+use Rattle.std.proofs.lemmas.Iterator.Search.{YieldsList-from_take_while}
+use Rattle.std.proofs.lemmas.List.Folds.{length-prefix_len}
+use lib.ListN.{drop}
 use Rattle.words.specs.Cutting.{no_space}
-use Rattle.laws.proofs.Span.{passed, stopped, ended}
-use Rattle.words.proofs.Space.{other_yes, other_not}
+use Rattle.laws.proofs.Span.{span_is}
 use Rattle.words.proofs.word_end.Goals as goal
 
-pub loop-i-init : goal.loop-i-init
-loop-i-init c = refl
-
-pub bounds-s-i : goal.bounds-s-i
-bounds-s-i c = omega arith
-
-pub returns-then-s-i-eq32 : goal.returns-then-s-i-eq32
-returns-then-s-i-eq32 c =
-    sym (stopped no_space _ _ c.loop-i-test.true (other_not _ c.if-s-i-eq32.true)) ∙ c.loop-i.invariant
-
-pub overflow_add-i : goal.overflow_add-i
-overflow_add-i c = omega arith
-
-pub loop-i-smaller : goal.loop-i-smaller
-loop-i-smaller c = omega arith
-
-pub loop-i-preserved : goal.loop-i-preserved
-loop-i-preserved c =
-    passed no_space _ _ c.loop-i-test.true (other_yes _ c.if-s-i-eq32.false) ∙ c.loop-i.invariant
-
 pub returns : goal.returns
-returns c = sym (ended no_space _ _ c.loop-i-test.false) ∙ c.loop-i.invariant
+unfolding no_space
+returns c =
+    let s = drop c.args.at c.args.s.now in
+    ap (λ n. c.args.at + n)
+    (count_from_yields_List c.take_while.result _ c.count.ensures.ran (YieldsList-from_take_while _ no_space (YieldsList-from_slice s (cc)) c.take_while.ensures.closure c.take_while.ensures.done (λ x b q k. search (rules, tests)))
+    ∙ length-prefix_len no_space s ∙ span_is no_space s)
