@@ -3,28 +3,12 @@
 #![tactic(auto)]
 
 ghost use Rattle.std.specs.Prelude.{◌≡◌, IfOk};
-ghost use Rattle.std.specs.Io.{ReadsAtMost};
 ghost use Rattle.chain_session.specs.Held.{records_of, holding};
 ghost use Rattle.chain_session.specs.Cable.{turn as turn_of};
 
 use chain_session::Cable;
 use std::io;
-use std::io::Read;
-
-// Reads until buf is full or the input ends, and answers how many bytes stand at the front of buf.
-fn read_full(input: &mut impl Read, buf: &mut [u8]) -> io::Result<usize>
-    ensures { ReadsAtMost result buf.new }
-{
-    let mut done = 0;
-    while done < buf.len() {
-        let got = input.read(&mut buf[done..])?;
-        if got == 0 {
-            break;
-        }
-        done += got;
-    }
-    Ok(done)
-}
+use stream::reading::read_full;
 
 // Prints what a part makes of the chain, and hands on the next one. The answers to one part have at most 96 bytes for the reply and for
 // each info line of each record.

@@ -2,30 +2,13 @@
 // plain one, whose file tools/plain/chain_speed.c says what both read and write.
 #![tactic(auto)]
 
-ghost use Rattle.std.specs.Io.{ReadsAtMost};
-
 use chain_session::Cable;
 use device::Device;
 use input::reports::ReportRead;
 use reply::LONGEST_REPLY;
 use std::io;
-use std::io::Read;
+use stream::reading::read_full;
 use units::Number;
-
-// Reads until buf is full or the input ends, and answers how many bytes stand at the front of buf.
-fn read_full(input: &mut impl Read, buf: &mut [u8]) -> io::Result<usize>
-    ensures { ReadsAtMost result buf.new }
-{
-    let mut done = 0;
-    while done < buf.len() {
-        let got = input.read(&mut buf[done..])?;
-        if got == 0 {
-            break;
-        }
-        done += got;
-    }
-    Ok(done)
-}
 
 // What was done: how many calls, and a sum over what they answered.
 fn say(rt: &impl Print, calls: u64, sum: u64) -> io::Result<()> {

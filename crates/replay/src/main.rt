@@ -7,27 +7,12 @@ ghost use Rattle.std.specs.Io.{ReadsAtMost};
 use std::alloc::{AllocError, Global};
 use std::fs::File;
 use std::io;
-use std::io::Read;
 use std::rt::Files;
+use stream::reading::read_full;
 
 // A file's name: two digits, and its ending.
 fn name(alloc: Global, k: u8, ending: &str) -> Result<String, AllocError> {
     format!(in alloc; "{k:02}{ending}")
-}
-
-// Reads until buf is full or the input ends, and answers how many bytes stand at the front of buf.
-fn read_full(input: &mut impl Read, buf: &mut [u8]) -> io::Result<usize>
-    ensures { ReadsAtMost result buf.new }
-{
-    let mut done = 0;
-    while done < buf.len() {
-        let got = input.read(&mut buf[done..])?;
-        if got == 0 {
-            break;
-        }
-        done += got;
-    }
-    Ok(done)
 }
 
 // Reads a file of data/ to the front of buf, and answers how many bytes it has; of a file that is missing, none.

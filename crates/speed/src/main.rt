@@ -2,29 +2,12 @@
 // one, whose file tools/plain/speed.c says what both read and write.
 #![tactic(auto)]
 
-ghost use Rattle.std.specs.Io.{ReadsAtMost};
-
 use device::Device;
 use input::reports::ReportRead;
 use reply::{LONGEST_ANSWER, LONGEST_REPLY};
 use std::io;
-use std::io::Read;
+use stream::reading::read_full;
 use units::Number;
-
-// Reads until buf is full or the input ends, and answers how many bytes stand at the front of buf.
-fn read_full(input: &mut impl Read, buf: &mut [u8]) -> io::Result<usize>
-    ensures { ReadsAtMost result buf.new }
-{
-    let mut done = 0;
-    while done < buf.len() {
-        let got = input.read(&mut buf[done..])?;
-        if got == 0 {
-            break;
-        }
-        done += got;
-    }
-    Ok(done)
-}
 
 // What was done: how many steps, and a sum over what they answered.
 fn say(rt: &impl Print, steps: u64, sum: u64) -> io::Result<()> {
