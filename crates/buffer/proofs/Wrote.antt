@@ -5,10 +5,9 @@ use mathlib.Core.Logic.{⊎_elim}
 use mathlib.Core.List.{List, [], ◌∷◌, ◌++◌, append-nil, append_assoc}
 use Prim.Native.Nat.{ℕ, suc, ◌+◌, ◌-◌, ◌≤◌, ◌<◌, min, max}
 use native.Mathlib.Nat.{suc-add, add-suc, add-zero}
-use native.Mathlib.Numerals.{add-one}
 use native.Mathlib.Omega.{arith}
-use lib.ListN.{length, get_or, set, take, drop, length-append, length-take, length-drop, length-set, take-append-drop, drop_of_length-le}
-use lib.Seq.{take-suc, take_at, take_all, drop-drop, take-suc-set, drop-set-lt, sets, length-sets, set_out}
+use lib.ListN.{length, set, take, drop, length-append, length-take, length-drop, length-set, take-append-drop, drop_of_length-le}
+use lib.Seq.{take_at, take_all, drop-drop, take-suc-set, drop-set-lt, sets, length-sets, set_out}
 use Rattle.laws.proofs.Answers.{one_answer}
 use Rattle.laws.proofs.Lists.{rest}
 use Rattle.laws.proofs.Order.{lt_or_le}
@@ -61,13 +60,9 @@ sets_laid (x ∷ t) b at =
     (λ h. sets_out (x ∷ t) b at h ∙ sym (laid_out (x ∷ t) b at h))
     (lt_or_le at (length b))
 
--- ---- the two answers of `put_byte`
-module _ (b : List ℕ) (at x : ℕ) where
-  pub wrote_byte : at < length b → Wrote b at (x ∷ []) (set b at x) (at + 1)
-  wrote_byte h = record { bytes = sets_laid (x ∷ []) b at; place = rw length-take (omega arith) }
-
-  pub wrote_past : length b ≤ at → Wrote b at (x ∷ []) b at
-  wrote_past h = record { bytes = sym (laid_out (x ∷ []) b at h); place = rw length-take (omega arith) }
+-- one byte that has a place
+pub wrote_byte : (b : List ℕ) (at x : ℕ) → at < length b → Wrote b at (x ∷ []) (set b at x) (at + 1)
+wrote_byte b at x h = record { bytes = sets_laid (x ∷ []) b at; place = rw length-take (omega arith) }
 
 -- ---- writes joined
 -- a write keeps the buffer's length
@@ -89,21 +84,6 @@ pub ◌▸◌ : {b : List ℕ} {at : ℕ} {s c : List ℕ} {r : ℕ} {t d : List
 -- nothing written
 pub wrote_none : (b : List ℕ) (at : ℕ) → Wrote b at [] b at
 wrote_none b at = record { bytes = sets_laid [] b at; place = rw length-take (omega arith) }
-
--- a turn of a loop that writes a text byte by byte
-pub wrote_more : {b : List ℕ} {at : ℕ} {c : List ℕ} {r : ℕ} {d : List ℕ} {q : ℕ} (t : List ℕ) (i : ℕ) → i < length t
-    → Wrote b at (take i t) c r → Wrote c r (get_or t i 0 ∷ []) d q → Wrote b at (take (i + 1) t) d q
-wrote_more t i h v w = rw (add-one, take-suc t i 0 h) (v ▸ w)
-
--- and of one that stores it where there is room: it begins with nothing, and each byte has its place
-pub wrote_start : (b : List ℕ) (at : ℕ) → Wrote b at [] b (at + 0)
-wrote_start b at = rw add-zero (wrote_none b at)
-
-pub wrote_next : {b : List ℕ} {at : ℕ} {c : List ℕ} (t : List ℕ) (i : ℕ) → i < length t → at + i < length c
-    → Wrote b at (take i t) c (at + i) → Wrote b at (take (i + 1) t) (set c (at + i) (get_or t i 0)) (at + (i + 1))
-wrote_next {b} {at} {c} t i h k v =
-    let e : at + i + 1 ≡ at + (i + 1) = omega arith in
-    rw e at (wrote_more t i h v (wrote_byte c (at + i) (get_or t i 0) k))
 
 -- where there is room, the whole text stands there
 pub wrote_room : {b : List ℕ} {at : ℕ} {t c : List ℕ} {r : ℕ} → Wrote b at t c r → at + length t ≤ length b

@@ -19,42 +19,17 @@ pub fn put_byte(buf: &mut [u8], at: usize, b: u8) -> usize
     at + 1
 }
 
-// Asks for room once.
+// As much of a text as has a place.
 pub fn put_text(buf: &mut [u8], at: usize, text: &[u8]) -> usize
     ensures { Wrote buf.old at text.now buf.new result }
 {
-    if at <= buf.len() {
-        if text.len() <= buf.len() - at {
-            return put_whole(buf, at, text);
-        }
+    if at < buf.len() {
+        let written = text.len().min(buf.len() - at);
+        buf[at..at + written].copy_from_slice(&text[..written]);
+        at + written
+    } else {
+        at
     }
-    put_front(buf, at, text)
-}
-
-// A text that has room.
-fn put_whole(buf: &mut [u8], at: usize, text: &[u8]) -> usize
-    requires { at + length text.now ≤ length buf.old }
-    ensures { Wrote buf.old at text.now buf.new result }
-{
-    let mut i: usize = 0;
-    while i < text.len() {
-        buf[at + i] = text[i];
-        i += 1;
-    }
-    at + i
-}
-
-// As much of a text as there is room for.
-fn put_front(buf: &mut [u8], at: usize, text: &[u8]) -> usize
-    ensures { Wrote buf.old at text.now buf.new result }
-{
-    let mut next = at;
-    let mut i = 0;
-    while i < text.len() {
-        next = put_byte(buf, next, text[i]);
-        i += 1;
-    }
-    next
 }
 
 // One text or the other.
