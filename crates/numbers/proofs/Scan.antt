@@ -9,13 +9,15 @@ use native.Mathlib.Omega.{arith}
 use native.Mathlib.Nat.{mul-le-mul}
 use native.Mathlib.Numerals.{add-one}
 use lib.Dec.{eqb, ltb, leb}
-use lib.ListN.{length, get_or, drop, drop_of_length-le, length-drop}
+use lib.ListN.{length, get_or, take, drop, drop_of_length-le, length-drop}
 use lib.Seq.{drop-cons, drop-drop}
 use borrow.Author.Tests.{lt-ltb, le-ltb, le-leb, lt-leb, leb-true, ne_eqb}
 use mir.Syntax.{w8, w32, w64}
 use mir.Val.{Fits}
 use Rattle.laws.specs.Text.{text, same}
 use Rattle.laws.proofs.Order.{lt_or_le}
+use Rattle.laws.proofs.Same.{same_is, same_flip}
+use Rattle.std.specs.List.{starts_with}
 use Rattle.laws.proofs.Bools.{and_false, and_right, clash}
 use Rattle.numbers.specs.Reading.{value_of, scan, digits_from, starts_hex, unsigned_from, AtMost}
 use Rattle.numbers.specs.declared.UnsignedRead.{UnsignedRead}
@@ -114,24 +116,14 @@ pub hex_second : (b : ℕ) (s : List ℕ) → starts_hex (48 ∷ b ∷ s) ≡ eq
 unfolding starts_hex same text
 hex_second b s = itself (eqb b 120)
 
-module _ (w : List ℕ) (i : ℕ) where
-  pub hex_end : length w ≤ i → false ≡ starts_hex (drop i w)
-  unfolding starts_hex same text
-  hex_end h = rw (drop_of_length-le w h)
+-- the library's `starts_with`
+pub hex_is : (s : List ℕ) → starts_with eqb s (48 ∷ 120 ∷ []) ≡ starts_hex s
+unfolding starts_hex text
+hex_is s = same_is (48 ∷ 120 ∷ []) (take 2 s) ∙ same_flip (48 ∷ 120 ∷ []) (take 2 s)
 
-  module _ (h : i < length w) where
-    pub hex_last : length w ≤ i + 1 → false ≡ starts_hex (drop i w)
-    hex_last k =
-        let m : length w ≤ suc i = omega arith in
-        rw (drop-cons w i 0 h, drop_of_length-le w m) (sym (hex_one (get_or w i 0)))
-
-    pub hex_other : (get_or w i 0 ≡ 48 → ⊥) → false ≡ starts_hex (drop i w)
-    hex_other k = rw (drop-cons w i 0 h) (sym (hex_not_0 (get_or w i 0) (drop (suc i) w) k))
-
-    pub hex_next : i + 1 < length w → get_or w i 0 ≡ 48 → eqb (get_or w (i + 1) 0) 120 ≡ starts_hex (drop i w)
-    hex_next k e =
-        let m : suc i < length w = omega arith in
-        rw (drop-cons w i 0 h, drop-cons w (suc i) 0 m, e, add-one) (sym (hex_second (get_or w (suc i) 0) (drop (suc (suc i)) w)))
+pub hex_end : (w : List ℕ) (i : ℕ) → length w ≤ i → false ≡ starts_hex (drop i w)
+unfolding starts_hex same text
+hex_end w i h = rw (drop_of_length-le w h)
 
 -- what is read so is never above `most`
 pub at_most : {most n : ℕ} (m : UnsignedRead) → AtMost most m → m ≡ Value n → n ≤ most

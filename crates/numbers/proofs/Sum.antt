@@ -1,17 +1,13 @@
--- The sum of what is left of a text.
+-- The sum of a text byte by byte, modulo 256, is the one of its total.
 -- Assumes nothing.
-use mathlib.Core.Path.{◌≡◌}
-use mathlib.Core.List.{List}
-use Prim.Native.Nat.{ℕ, ◌+◌, ◌≤◌, ◌<◌}
-use native.Mathlib.Numerals.{add-one}
-use lib.ListN.{length, get_or, drop, drop_of_length-le}
-use lib.Seq.{drop-cons}
+use mathlib.Core.Path.{◌≡◌, ◌∙◌}
+use mathlib.Core.List.{List, [], ◌∷◌}
+use Prim.Native.Nat.{ℕ, ◌+◌, ◌%◌, ◌<◌}
+use native.Mathlib.Omega.{arith}
+use Rattle.std.specs.List.{fold}
 use Rattle.numbers.specs.Checksum.{total}
 
-pub total_more : (s : List ℕ) (i : ℕ) → i < length s → total (drop i s) ≡ get_or s i 0 + total (drop (i + 1) s)
+pub total_folded : (s : List ℕ) (a : ℕ) → a < 256 → fold (λ n c. (n + c) % 256) a s ≡ (a + total s) % 256
 unfolding total
-total_more s i h = rw (drop-cons s i 0 h, add-one)
-
-pub total_end : (s : List ℕ) (i : ℕ) → length s ≤ i → total (drop i s) ≡ 0
-unfolding total
-total_end s i h = rw (drop_of_length-le s h)
+total_folded [] a h = omega arith
+total_folded (c ∷ s) a h = total_folded s ((a + c) % 256) (omega arith) ∙ omega arith

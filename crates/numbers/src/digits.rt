@@ -9,29 +9,16 @@ use crate::UnsignedRead;
 pub const NO_DIGIT: u64 = 99;
 
 // What a digit stands for, in either case.
+#[tactic(auto, using(std::proofs::lemmas::Bool::Decides::nat_tests), unfolding(crate::specs::Reading::value_of))]
 pub fn digit_value(c: u8) -> u64
     ensures { result ≡ value_of c }
 {
-    let n = c as u64;
-    if n < 48 {
-        return NO_DIGIT;
+    match c {
+        b'0'..=b'9' => u64::from(c - b'0'),
+        b'A'..=b'F' => u64::from(c - b'A') + 10,
+        b'a'..=b'f' => u64::from(c - b'a') + 10,
+        _ => NO_DIGIT,
     }
-    if n < 58 {
-        return n - 48;
-    }
-    if n < 65 {
-        return NO_DIGIT;
-    }
-    if n < 71 {
-        return n - 55;
-    }
-    if n < 97 {
-        return NO_DIGIT;
-    }
-    if n < 103 {
-        return n - 87;
-    }
-    NO_DIGIT
 }
 
 // One digit or more from a place on, none of which carries the value past `most`.
@@ -44,8 +31,7 @@ fn digits(w: &[u8], from: usize, base: u8, most: u32) -> UnsignedRead
     let b = base as u64;
     let m = most as u64;
     let mut n: u64 = 0;
-    let mut i = from;
-    while i < w.len() {
+    for i in from..w.len() {
         let d = digit_value(w[i]);
         let next = n * b + d;
         if (d < b) & (next <= m) {
@@ -53,26 +39,19 @@ fn digits(w: &[u8], from: usize, base: u8, most: u32) -> UnsignedRead
         } else {
             return UnsignedRead::Refused(i);
         }
-        i += 1;
     }
     UnsignedRead::Value(n)
 }
 
 // Does `0x` stand at the place?
+#[tactic(auto, using(crate::proofs::Scan::hex_end))]
 fn starts_hex(w: &[u8], from: usize) -> bool
     ensures { result ≡ starts_hex (drop from w.now) }
 {
-    if w.len() <= from {
-        return false;
+    match w.get(from..) {
+        Some(rest) => rest.starts_with(b"0x"),
+        None => false,
     }
-    let next = from + 1;
-    if w.len() <= next {
-        return false;
-    }
-    if w[from] != b'0' {
-        return false;
-    }
-    w[next] == b'x'
 }
 
 // `0x` and hex digits, or decimal digits, from a place on.

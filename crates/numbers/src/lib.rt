@@ -34,13 +34,8 @@ pub enum PairRead {
 pub fn checksum(s: &[u8]) -> u8
     ensures { result ≡ checksumOf s.now }
 {
-    let mut sum: u64 = 0;
-    let mut i: usize = 0;
-    while i < s.len() {
-        sum = (sum + s[i] as u64) % 256;
-        i += 1;
-    }
-    ((256 - sum) % 256) as u8
+    let sum = s.iter().fold(0u8, |sum, byte| sum.wrapping_add(*byte));
+    sum.wrapping_neg()
 }
 
 pub mod digits;
