@@ -2,7 +2,7 @@
 // specs/Spelling.antt says how a content is composed, and proofs/Content.antt shows that just these words are found.
 #![tactic(auto)]
 
-ghost use Rattle.std.specs.Prelude.{◌≡◌, drop};
+ghost use Rattle.std.specs.Prelude.{◌≡◌, ◌≤◌, drop, length};
 ghost use Rattle.laws.specs.Text.{same};
 ghost use Rattle.words.specs.Cutting.{start_of, end_of, word_at, cut, head_word, tail_words, past_of};
 ghost use Rattle.words.specs.Find.{index};
@@ -37,7 +37,9 @@ fn word_end(s: &[u8], at: usize) -> usize
 
 // The first word from at on.
 pub fn word_at(s: &[u8], at: usize) -> Word
-    ensures { result ≡ word_at s.now at }
+    ensures found { result ≡ word_at s.now at }
+    ensures ordered { result.start ≤ result.end }
+    ensures within { result.end ≤ length s.now }
 {
     let start = start_of(s, at);
     if s.len() <= start {

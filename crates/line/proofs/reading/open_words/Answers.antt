@@ -1,25 +1,15 @@
 -- The first word is the address word, or there is none.
-use Rattle.words.proofs.Cut.{word_whole, word_within}
 use Rattle.line.proofs.Opened.{open_address, open_bare, address_places}
 use borrow.Author.Rules.{rules}
 use Rattle.line.proofs.reading.open_words.Goals as goal
 
-pub slice_bounds-read_address-count : goal.slice_bounds-read_address-count
-slice_bounds-read_address-count c = word_whole _ _ c.word_at-w.ensures
-
-pub slice_bounds-read_address-start : goal.slice_bounds-read_address-start
-slice_bounds-read_address-start c = word_whole _ _ c.word_at-w.ensures
-
-pub slice_bounds-read_address-end : goal.slice_bounds-read_address-end
-slice_bounds-read_address-end c = word_within _ _ c.word_at-w.ensures
-
 pub addressee_of-requires : goal.addressee_of-requires
 addressee_of-requires c =
-    address_places c.args.s.now c.word_at-w.ensures (search rules) c.read_address-a.ensures
+    address_places c.args.s.now c.word_at-w.ensures.found (search rules) c.read_address-a.ensures
 
 pub returns-then-number_at : goal.returns-then-number_at
 returns-then-number_at c =
-    let q = c.word_at-w.ensures in
+    let q = c.word_at-w.ensures.found in
     open_address c.args.s.now c.number_at.ensures c.if-number_at.true q
     c.read_address-a.ensures c.addressee_of.ensures
 
