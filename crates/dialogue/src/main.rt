@@ -6,7 +6,7 @@
 use command::{AxisCommand, AxisSetting, Command, DeviceCommand, DeviceSetting, Target};
 use device::Device;
 use host_reader::reading::field;
-use host_reader::{Message, MessageRead, Said, State, Text};
+use host_reader::{Message, Said, State, Text};
 use reply::{LONGEST_ANSWER, LONGEST_REPLY};
 use std::io;
 use units::{Number, Position, Speed};
@@ -141,8 +141,8 @@ fn say_message(rt: &impl Print, m: Message, line: &[u8]) -> io::Result<()> {
 
 fn say_read(rt: &impl Print, line: &[u8]) -> io::Result<()> {
     match host_reader::reading::read_message(line) {
-        MessageRead::Message(m) => say_message(rt, m, line),
-        MessageRead::NotReply => say(rt, b" => no message\n"),
+        Some(m) => say_message(rt, m, line),
+        None => say(rt, b" => no message\n"),
     }
 }
 

@@ -6,25 +6,25 @@ use mathlib.Core.List.{List, [], ◌∷◌, ◌++◌, map}
 use Prim.Native.Nat.{ℕ}
 use Prim.Native.String.{String}
 use lib.ListN.{replicate}
+use Rattle.std.specs.Prelude.{Option, None, Some}
 use Rattle.laws.specs.Lists.{span}
 use Rattle.laws.specs.Text.{text, same}
 use Rattle.numbers.specs.Checksum.{total, checksum}
 use Rattle.numbers.specs.Reading.{value_of, read_pair}
 use Rattle.words.specs.Find.{index}
 use Rattle.flags.specs.Flags.{warning_names}
-use Rattle.host_reader.specs.Reading.{field, stands, two_of, marks, verdicts, statuses, warnings, front_in, state_in, data_byte, content_end, text_at, reply_in, alert_in, info_in, said_in, right_end, ended, message_in, is_message, read_message}
+use Rattle.host_reader.specs.Reading.{marks, verdicts, statuses, warnings, kind_at, read_message}
 use Rattle.host_reader.specs.declared.Said.{Said}
 use Rattle.host_reader.specs.declared.Said.TheVariants.{Reply, Alert, Info}
-use Rattle.host_reader.specs.declared.MessageRead.{MessageRead}
-use Rattle.host_reader.specs.declared.MessageRead.TheVariants as Read
+use Rattle.host_reader.specs.declared.Message.{Message}
 
 pub record Row : Type 0 where
   pub line : List ℕ
-  pub answer : MessageRead
+  pub answer : Option Message
 
 -- address, axis, and what is said for it
 abbrev says : List ℕ → ℕ → ℕ → Said → Row
-says l a k s = record { line = l; answer = Read.Message (record { address = a; axis = k; said = s }) }
+says l a k s = record { line = l; answer = Some (record { address = a; axis = k; said = s }) }
 
 -- OK, BUSY, the warning's place, the data's length
 abbrev reply : Bool → Bool → ℕ → ℕ → Said
@@ -38,7 +38,7 @@ abbrev info : ℕ → ℕ → Said
 info i n = Info (record { place = i; length = n })
 
 abbrev none : String → Row
-none l = record { line = text l; answer = Read.NotReply }
+none l = record { line = text l; answer = None }
 
 abbrev fill : ℕ → List ℕ
 fill n = replicate n 120
@@ -82,7 +82,7 @@ rows =
     ∷ none ""
     -- 96 bytes are read, 97 are not
     ∷ says (text "@01 0 OK IDLE WR " ++ fill 77 ++ text "\r\n") 1 0 (reply true false 8 77)
-    ∷ record { line = text "@01 0 OK IDLE WR " ++ fill 78 ++ text "\r\n"; answer = Read.NotReply }
+    ∷ record { line = text "@01 0 OK IDLE WR " ++ fill 78 ++ text "\r\n"; answer = None }
     -- alerts: each status, the first and the last warning, none, and a checksum in either case
     ∷ says (text "!01 2 IDLE --\r\n") 1 2 (alert false 0)
     ∷ says (text "!99 9 BUSY WR\r\n") 99 9 (alert true 8)
@@ -151,14 +151,13 @@ rows =
     ∷ none "/01 0\r\n"
     ∷ none "##01 0\r\n"
     -- the bytes on both sides of 32 to 126
-    ∷ record { line = text "#01 0 a" ++ (31 ∷ text "\r\n"); answer = Read.NotReply }
-    ∷ record { line = text "#01 0 a" ++ (127 ∷ text "\r\n"); answer = Read.NotReply }
+    ∷ record { line = text "#01 0 a" ++ (31 ∷ text "\r\n"); answer = None }
+    ∷ record { line = text "#01 0 a" ++ (127 ∷ text "\r\n"); answer = None }
     -- 96 bytes are read, 97 are not
     ∷ says (text "#01 0 " ++ fill 88 ++ text "\r\n") 1 0 (info 6 88)
-    ∷ record { line = text "#01 0 " ++ fill 89 ++ text "\r\n"; answer = Read.NotReply }
+    ∷ record { line = text "#01 0 " ++ fill 89 ++ text "\r\n"; answer = None }
     ∷ []
 
 pub message_cases : map (λ r. read_message r.line) rows ≡ map (λ r. r.answer) rows
-unfolding rows read_message is_message message_in front_in said_in reply_in alert_in info_in state_in text_at content_end ended stands field marks
-    two_of verdicts statuses warnings warning_names data_byte right_end span index value_of read_pair total checksum text same
+unfolding rows marks verdicts statuses warnings kind_at warning_names span index value_of read_pair total checksum text same
 message_cases = refl

@@ -9,6 +9,7 @@ use lib.Dec.{eqb, ltb, leb}
 use lib.ListN.{length, get_or}
 use lib.Seq.{take_all}
 use borrow.Author.Tests.{eqb-true, eqb-false, ltb-true, leb-true, not-true}
+use Rattle.std.specs.Prelude.{Option, Some}
 use Rattle.laws.specs.Lists.{fold, all, span}
 use Rattle.laws.specs.Text.{text}
 use Rattle.laws.proofs.Bools.{and_left, and_right}
@@ -17,8 +18,7 @@ use Rattle.reply.specs.Help.{help_texts, info_lines}
 use Rattle.reply.proofs.Room.{most_text_lem}
 use Rattle.host_reader.specs.Spelling.{Data}
 use Rattle.host_reader.specs.Reading.{data_byte, read_message}
-use Rattle.host_reader.specs.declared.MessageRead.{MessageRead}
-use Rattle.host_reader.specs.declared.MessageRead.TheVariants as Read
+use Rattle.host_reader.specs.declared.Message.{Message}
 use Rattle.host_reader.proofs.Spelled.{data_of}
 use Rattle.host_reader.proofs.TextStands.{InfoText}
 use Rattle.host_reader.proofs.ReadsBack.{heard_info, info_back}
@@ -42,7 +42,7 @@ fits_data t h =
     )
 
 help_fits : all fits help_texts ≡ true
-unfolding fits help_texts text fold span data_byte
+unfolding fits help_texts text fold span
 help_fits = refl
 
 most_text : (sum : Bool) → 85 ≤ most_text_lem sum
@@ -50,8 +50,8 @@ most_text true = omega arith
 most_text false = omega arith
 
 module _ (address : ℕ) (sum : Bool) (some : 1 ≤ address) (most : address ≤ 99) where
-  abbrev pub heard : List ℕ → MessageRead
-  heard t = Read.Message (heard_info address 0 t)
+  abbrev pub heard : List ℕ → Option Message
+  heard t = Some (heard_info address 0 t)
 
   each_back : (ts : List (List ℕ)) → all fits ts ≡ true → map read_message (map (info address 0 sum) ts) ≡ map heard ts
   unfolding fold
@@ -59,7 +59,7 @@ module _ (address : ℕ) (sum : Bool) (some : 1 ≤ address) (most : address ≤
   each_back (t ∷ ts) h =
       let x = fits_data t (and_left (fits t) (all fits ts) h) in
       let back = info_back address 0 sum some most (omega arith) (InfoText.said x.0) (omega (arith, x.1, most_text sum)) in
-      ap₂ (λ (y : MessageRead) (ys : List MessageRead). y ∷ ys) back (each_back ts (and_right (fits t) (all fits ts) h))
+      ap₂ (λ (y : Option Message) (ys : List (Option Message)). y ∷ ys) back (each_back ts (and_right (fits t) (all fits ts) h))
 
   pub help_reads_back : map read_message (info_lines address sum) ≡ map heard help_texts
   unfolding info_lines

@@ -1,6 +1,6 @@
-pub mod Fields
-pub mod Parts
-pub mod Answers
+pub mod Options
+pub mod Marks
+pub mod Walks
 pub mod Spelled
 pub mod SpelledIsRead
 pub mod ReadIsSpelled

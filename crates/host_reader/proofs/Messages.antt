@@ -1,26 +1,25 @@
 -- A line is read as a message exactly where Spelling writes it for that message; it is written for one message at most, and so
 -- for one of the three kinds. Assumes nothing.
-use mathlib.Core.Path.{◌≡◌, refl, ap}
+use mathlib.Core.Path.{◌≡◌, refl, ap, ◌∙◌}
 use mathlib.Core.Logic.{◌↔◌}
-use mathlib.Core.Bool.{Bool, true, false, ◌&&◌}
+use mathlib.Core.Bool.{Bool, true, false, cond, ◌&&◌}
 use mathlib.Core.List.{List, ◌++◌}
 use Prim.Native.Nat.{ℕ}
 use native.Mathlib.Omega.{arith}
 use lib.Dec.{leb}
 use lib.ListN.{length, take}
 use borrow.Author.Tests.{leb-true}
+use Rattle.std.specs.Prelude.{Option, None, Some, is_some}
 use Rattle.laws.specs.Text.{text}
-use Rattle.laws.proofs.Bools.{and_left, and_right}
 use Rattle.laws.proofs.Spaced.{trail}
 use Rattle.host_reader.specs.Spelling.{Address, Axis, Says}
 use Rattle.host_reader.specs.Spelling as spelling
-use Rattle.host_reader.specs.Reading.{message_in, is_message, read_message, number_of}
+use Rattle.host_reader.specs.Reading.{message_in, read_message, number_of}
 use Rattle.host_reader.specs.declared.Said.{Said}
 use Rattle.host_reader.specs.declared.Said.TheVariants.{Reply, Alert, Info}
 use Rattle.host_reader.specs.declared.Message.{Message}
-use Rattle.host_reader.specs.declared.MessageRead.{MessageRead}
-use Rattle.host_reader.specs.declared.MessageRead.TheVariants as Read
-use Rattle.host_reader.proofs.Answers.{right}
+use Rattle.host_reader.specs.declared.Kind.{Kind}
+use Rattle.host_reader.specs.declared.Kind.TheVariants as Kinds
 use Rattle.host_reader.proofs.SpelledIsRead.{One, one, line_of, body_of, body_is, heard, read_whole}
 use Rattle.host_reader.proofs.ReadIsSpelled.{read_spelled}
 
@@ -29,25 +28,23 @@ line_is : {mark : List ℕ} (c b k : ℕ) (ws : List (List ℕ)) (e : List ℕ) 
     ≡ line_of mark c b k (trail ws ++ e)
 line_is c b k ws e one = rw (body_is c b k ws)
 
-pub message_read : {l : List ℕ} {h : Message} → spelling.Message l h → read_message l ≡ Read.Message h
+pub message_read : {l : List ℕ} {h : Message} → spelling.Message l h → read_message l ≡ Some h
 message_read (spelling.message {e = e} {ws} (Address.two {c} {d = b} x y some) (Axis.one {c = k} z) says end short) =
     let h = heard c b k e says in
     let line = line_is c b k ws e h.byte in
     rw line (read_whole x y some z h end (rw line at short))
 
-pub message_of : (l : List ℕ) (h : Message) → read_message l ≡ Read.Message h → spelling.Message l h
-unfolding read_message is_message
-message_of l h e = go (leb (length l) 96 && right l) refl
+pub message_of : (l : List ℕ) (h : Message) → read_message l ≡ Some h → spelling.Message l h
+message_of l h e = go (leb (length l) 96) refl (message_in l) refl e
   where
-    go : (t : Bool) → (leb (length l) 96 && right l) ≡ t → spelling.Message l h
-    go true q =
-        let same : message_in l ≡ h = cc (rw q at e) in
-        rw (← same) (read_spelled l (leb-true (length l) 96 (and_left (leb (length l) 96) (right l) q))
-        (and_right (leb (length l) 96) (right l) q))
-    go false q = let z : ◌≡◌ {A = ℕ} 0 1 = cc (rw q at e) in absurd (omega arith)
+    go : (t : Bool) → leb (length l) 96 ≡ t → (o : Option Message) → message_in l ≡ o → cond (t && is_some o) o None ≡ Some h
+        → spelling.Message l h
+    go true q (Some g) y e = read_spelled l (leb-true (length l) 96 q) (y ∙ e)
+    go true q None y e = cc
+    go false q o y e = cc
 
 -- ---- the theorem
-pub message_iff : (l : List ℕ) (h : Message) → spelling.Message l h ↔ (read_message l ≡ Read.Message h)
+pub message_iff : (l : List ℕ) (h : Message) → spelling.Message l h ↔ (read_message l ≡ Some h)
 message_iff l h = (message_read, message_of l h)
 
 pub message_one : {l : List ℕ} {h g : Message} → spelling.Message l h → spelling.Message l g → h ≡ g
@@ -57,28 +54,23 @@ message_one p q = cc (message_read p, message_read q)
 pub not_message : (l : List ℕ) → ((h : Message) → spelling.Message l h → ⊥) → number_of (read_message l) ≡ 30
 not_message l never = go (read_message l) refl
   where
-    go : (r : MessageRead) → read_message l ≡ r → number_of r ≡ 30
-    go (Read.Message h) e = absurd (never h (message_of l h e))
-    go Read.NotReply e = refl
+    go : (r : Option Message) → read_message l ≡ r → number_of r ≡ 30
+    go (Some h) e = absurd (never h (message_of l h e))
+    go None e = refl
 
 pub no_spelling : (l : List ℕ) (h : Message) → number_of (read_message l) ≡ 30 → spelling.Message l h → ⊥
 no_spelling l h e p = let y = rw (message_read p) at e in omega arith
 
 -- ---- the kind, told by the first byte
-pub data Kind : Type 0 where
-  reply : Kind
-  alert : Kind
-  info : Kind
-
 abbrev pub kind_of : Said → Kind
-kind_of (Reply ok state words) = reply
-kind_of (Alert state) = alert
-kind_of (Info words) = info
+kind_of (Reply ok state words) = Kinds.Reply
+kind_of (Alert state) = Kinds.Alert
+kind_of (Info words) = Kinds.Info
 
 abbrev pub mark_of : Kind → List ℕ
-mark_of reply = text "@"
-mark_of alert = text "!"
-mark_of info = text "#"
+mark_of Kinds.Reply = text "@"
+mark_of Kinds.Alert = text "!"
+mark_of Kinds.Info = text "#"
 
 pub kind_by_mark : {l : List ℕ} {h : Message} → spelling.Message l h → take 1 l ≡ mark_of (kind_of h.said)
 unfolding text

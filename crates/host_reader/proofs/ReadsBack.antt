@@ -9,6 +9,7 @@ use native.Mathlib.Nat.{mod-eq_of_lt}
 use lib.Dec.{ltb}
 use lib.ListN.{length, length-append}
 use borrow.Author.Tests.{le-ltb}
+use Rattle.std.specs.Prelude.{Some}
 use Rattle.laws.specs.Text.{text, spaced}
 use Rattle.laws.proofs.Spaced.{trail}
 use Rattle.numbers.specs.Checksum.{checksum}
@@ -28,7 +29,6 @@ use Rattle.host_reader.specs.declared.Said.{Said}
 use Rattle.host_reader.specs.declared.Said.TheVariants.{Reply, Alert, Info}
 use Rattle.host_reader.specs.declared.State.{State}
 use Rattle.host_reader.specs.declared.Message.{Message}
-use Rattle.host_reader.specs.declared.MessageRead.TheVariants as Read
 use Rattle.host_reader.proofs.Spelled.{verdict_two, status_four, warning_two}
 use Rattle.host_reader.proofs.SpelledIsRead.{One, at_sign, bang, hash, front_size, reply_size, alert_size, info_size}
 use Rattle.host_reader.proofs.Messages.{message_read}
@@ -164,7 +164,7 @@ module _ (h : Head) (sum : Bool) (some : 1 ≤ h.address) (most : h.address ≤ 
       words (ending sum (body h words)))
 
   pub reply_back : (words : List ℕ) → Data words → length words ≤ most_data_lem sum
-      → read_message (reply h sum words) ≡ Read.Message (heard_reply h words)
+      → read_message (reply h sum words) ≡ Some (heard_reply h words)
   reply_back words said short = message_read (reply_spelled words said short)
 
   -- ---- alerts
@@ -176,7 +176,7 @@ module _ (h : Head) (sum : Bool) (some : 1 ≤ h.address) (most : h.address ≤ 
       spelled bang (address_spelled h.address some most) (axis_spelled h.axis one_digit) sum (Says.alert s w)
       (omega (arith, alert_size (status_four s) (warning_two w)))
 
-  pub alert_back : read_message (alert h sum) ≡ Read.Message (heard_alert h)
+  pub alert_back : read_message (alert h sum) ≡ Some (heard_alert h)
   alert_back = message_read alert_spelled
 
 -- ---- info lines: 88 bytes of text without a checksum, 85 with one
@@ -198,12 +198,12 @@ module _ (address axis : ℕ) (sum : Bool) (some : 1 ≤ address) (most : addres
 
   -- the text stands where the message says
   pub info_text : (t : List ℕ) → field (info address axis sum t) (place_for_lem t) (length t) ≡ t
-  unfolding info info_body field
+  unfolding info info_body
   info_text [] = refl
   info_text (c ∷ t) =
       rw (← text_place_lem)
       (text_stands (text "#") (two_digits address) (digits axis ∷ []) (c ∷ t) (ending sum (info_body address axis (c ∷ t))))
 
   pub info_back : {t : List ℕ} → InfoText t → length t ≤ most_text_lem sum
-      → read_message (info address axis sum t) ≡ Read.Message (heard_info address axis t)
+      → read_message (info address axis sum t) ≡ Some (heard_info address axis t)
   info_back x short = message_read (info_spelled x short)

@@ -1,14 +1,15 @@
 -- The parts of a message as Spelling has them, and as they are read: each way, part by part.
 -- Assumes nothing.
-use mathlib.Core.Path.{◌≡◌, refl, sym, ap, ◌∙◌}
+use mathlib.Core.Path.{◌≡◌, refl, sym, ap, subst, ◌∙◌}
 use mathlib.Core.Logic.{⊎_elim}
 use mathlib.Core.Bool.{Bool, true, false, not, ◌&&◌, ◌||◌}
 use mathlib.Core.List.{List, [], ◌∷◌, ◌++◌}
 use Prim.Native.Nat.{ℕ, zero, suc, ◌≤◌, ◌<◌}
 use native.Mathlib.Omega.{arith}
-use lib.Dec.{eqb, leb}
+use lib.Dec.{eqb, ltb, leb}
 use lib.ListN.{length, get_or, take, drop}
-use borrow.Author.Tests.{eq-eqb, ne_eqb, eqb-false, le-leb, leb-true, not-true}
+use borrow.Author.Tests.{eq-eqb, ne_eqb, eqb-false, le-leb, leb-true, ltb-true, not-true}
+use Rattle.std.specs.Prelude.{Some}
 use Rattle.laws.specs.Lists.{fold, all, span}
 use Rattle.laws.specs.Text.{text, same}
 use Rattle.laws.proofs.Order.{eq_or_ne}
@@ -26,7 +27,8 @@ use Rattle.words.specs.Spelling.{WordByte}
 use Rattle.words.proofs.Index.{index_is}
 use Rattle.flags.specs.Flags.{warning_names}
 use Rattle.host_reader.specs.Spelling.{Verdict, accepted, rejected, Status, idle, busy, Warning, fd, fq, fs, ft, fb, fp, fe, wr, Bytes, gap, byte, Data, begun, End, bare, summed}
-use Rattle.host_reader.specs.Reading.{field, stands, verdicts, statuses, warnings, data_byte, right_end}
+use Rattle.host_reader.specs.Reading.{stands, verdicts, statuses, warnings, second, data_byte, right_end}
+use Rattle.host_reader.proofs.Options.{then_is}
 
 -- ---- the words of the three lists
 pub data Two : List ℕ → Type 0 where
@@ -46,9 +48,12 @@ verdict_at zero h e = rw e rejected
 verdict_at (suc zero) h e = rw e accepted
 verdict_at (suc (suc k)) h e = absurd (omega arith)
 
-pub verdict_of : (v : List ℕ) → index v verdicts < 2 → Verdict v (eqb (index v verdicts) 1)
+pub verdict_of : (v : List ℕ) {t : Bool} → second (index v verdicts) ≡ Some t → Verdict v t
 unfolding verdicts
-verdict_of v h = verdict_at (index v verdicts) h (at_place verdicts v h)
+verdict_of v e =
+    let h = then_is (ltb (index v verdicts) 2) e in
+    let below = ltb-true (index v verdicts) 2 h.0 in
+    subst (Verdict v) h.1 (verdict_at (index v verdicts) below (at_place verdicts v below))
 
 status_at : (k : ℕ) → k < 2 → {v : List ℕ} → v ≡ get_or statuses k [] → Status v (eqb k 1)
 unfolding statuses
@@ -56,9 +61,12 @@ status_at zero h e = rw e idle
 status_at (suc zero) h e = rw e busy
 status_at (suc (suc k)) h e = absurd (omega arith)
 
-pub status_of : (v : List ℕ) → index v statuses < 2 → Status v (eqb (index v statuses) 1)
+pub status_of : (v : List ℕ) {t : Bool} → second (index v statuses) ≡ Some t → Status v t
 unfolding statuses
-status_of v h = status_at (index v statuses) h (at_place statuses v h)
+status_of v e =
+    let h = then_is (ltb (index v statuses) 2) e in
+    let below = ltb-true (index v statuses) 2 h.0 in
+    subst (Status v) h.1 (status_at (index v statuses) below (at_place statuses v below))
 
 warning_at_lem : (k : ℕ) → k < 9 → {w : List ℕ} → w ≡ get_or warnings k [] → Warning w k
 unfolding warnings warning_names
@@ -82,19 +90,15 @@ pub record Known (w : List ℕ) (k : ℕ) (ws : List (List ℕ)) (n : ℕ) : Typ
   pub place : index w ws ≡ k
   pub below : k < n
 
-pub record Chosen (w : List ℕ) (t : Bool) (ws : List (List ℕ)) : Type 0 where
-  pub below : index w ws < 2
-  pub says : eqb (index w ws) 1 ≡ t
-
-pub verdict_read : {v : List ℕ} {ok : Bool} → Verdict v ok → Chosen v ok verdicts
+pub verdict_read : {v : List ℕ} {ok : Bool} → Verdict v ok → second (index v verdicts) ≡ Some ok
 unfolding verdicts index text same
-verdict_read accepted = record { below = omega arith; says = refl }
-verdict_read rejected = record { below = omega arith; says = refl }
+verdict_read accepted = refl
+verdict_read rejected = refl
 
-pub status_read : {v : List ℕ} {t : Bool} → Status v t → Chosen v t statuses
+pub status_read : {v : List ℕ} {t : Bool} → Status v t → second (index v statuses) ≡ Some t
 unfolding statuses index text same
-status_read idle = record { below = omega arith; says = refl }
-status_read busy = record { below = omega arith; says = refl }
+status_read idle = refl
+status_read busy = refl
 
 pub warning_read : {w : List ℕ} {k : ℕ} → Warning w k → Known w k warnings 9
 unfolding warnings warning_names index text same
@@ -132,15 +136,12 @@ warning_two wr = two
 
 -- ---- texts
 space_is_data : data_byte 32 ≡ true
-unfolding data_byte
 space_is_data = refl
 
 word_is_data : {c : ℕ} → WordByte c → data_byte c ≡ true
-unfolding data_byte
 word_is_data {c} h = simp (le-leb 32 c (omega (arith, h.low)), le-leb c 126 h.high, ne_eqb c 58 h.no_colon)
 
 pub data_is_word : (c : ℕ) → data_byte c ≡ true → (c ≡ 32 → ⊥) → WordByte c
-unfolding data_byte
 data_is_word c t h =
     let both = and_left (leb 32 c && leb c 126) (not (eqb c 58)) t in
     let low = leb-true 32 c (and_left (leb 32 c) (leb c 126) both) in
@@ -169,17 +170,17 @@ all_bytes (c ∷ s) t =
     ⊎_elim (λ e. rw e (gap b)) (λ k. byte (data_is_word c h k) b) (eq_or_ne c 32)
 
 pub verdict_bytes : {v : List ℕ} {ok : Bool} → Verdict v ok → Bytes v
-unfolding text data_byte fold
+unfolding text fold
 verdict_bytes {v} accepted = all_bytes v refl
 verdict_bytes {v} rejected = all_bytes v refl
 
 pub status_bytes : {v : List ℕ} {t : Bool} → Status v t → Bytes v
-unfolding text data_byte fold
+unfolding text fold
 status_bytes {v} idle = all_bytes v refl
 status_bytes {v} busy = all_bytes v refl
 
 pub warning_bytes : {w : List ℕ} {k : ℕ} → Warning w k → Bytes w
-unfolding text data_byte fold
+unfolding text fold
 warning_bytes {w} Warning.none = all_bytes w refl
 warning_bytes {w} fd = all_bytes w refl
 warning_bytes {w} fq = all_bytes w refl
@@ -229,22 +230,22 @@ end_some bare = omega arith
 end_some (summed h) = omega arith
 
 pub end_span : {s e : List ℕ} → End s e → span data_byte e ≡ 0
-unfolding text data_byte span
+unfolding text span
 end_span bare = refl
 end_span (summed h) = refl
 
 sum_read : {p : List ℕ} {n : ℕ} → HexPair p n → (s : List ℕ) → n ≡ checksum s → right_end s (text ":" ++ p ++ text "\r\n") ≡ true
-unfolding right_end stands field text same
+unfolding text same
 sum_read (pair {h} {l} x y) s e = rw (pair_read (pair x y), eq-eqb _ _ e)
 
 pub end_read : {s e : List ℕ} → End s e → right_end s e ≡ true
-unfolding right_end text same
+unfolding text same
 end_read bare = refl
 end_read {s} (summed h) = sum_read h s refl
 
 summed_of : (s e : List ℕ) → (stands e 0 (text ":") && same (drop 3 e) (text "\r\n") && says_sum s (read_pair (get_or e 1 0) (get_or e 2 0)))
     ≡ true → End s e
-unfolding stands field text same
+unfolding text same
 summed_of s [] t = clash t refl
 summed_of s (a ∷ []) t = clash (and_right (same (a ∷ []) (text ":")) false (and_left _ _ t)) refl
 summed_of s (a ∷ b ∷ []) t = clash (and_right (same (a ∷ []) (text ":")) false (and_left _ _ t)) refl
@@ -259,7 +260,6 @@ summed_of s (a ∷ b ∷ c ∷ r) t =
     put p q h = rw (p, q) (summed h)
 
 pub end_of : (s e : List ℕ) → right_end s e ≡ true → End s e
-unfolding right_end
 end_of s e t = go (same e (text "\r\n")) refl t
   where
     go : (b : Bool) → same e (text "\r\n") ≡ b → (b ||

@@ -1,14 +1,14 @@
 -- What Spelling writes is read: the front, a state, a text, and from these each kind and the whole.
 -- Assumes nothing.
 use mathlib.Core.Path.{◌≡◌, refl, ap, ◌∙◌}
-use mathlib.Core.Bool.{Bool, true, false, ◌&&◌}
+use mathlib.Core.Bool.{Bool, true, false}
 use mathlib.Core.List.{List, [], ◌∷◌, ◌++◌, append-nil, append_assoc}
 use Prim.Native.Nat.{ℕ, ◌+◌, ◌*◌, ◌-◌, ◌≤◌, ◌<◌}
 use native.Mathlib.Omega.{arith}
-use lib.Dec.{eqb, ltb}
 use lib.ListN.{length, take, drop}
 use lib.Seq.{take_at, drop_at}
 use borrow.Author.Tests.{lt-ltb, le-leb, ne_eqb}
+use Rattle.std.specs.Prelude.{Some}
 use Rattle.laws.specs.Lists.{span}
 use Rattle.laws.specs.Text.{text, same, spaced}
 use Rattle.laws.proofs.Each.{none, more}
@@ -18,12 +18,14 @@ use Rattle.numbers.specs.Spelling.{Digit}
 use Rattle.numbers.proofs.Value.{digit_value, digit_below}
 use Rattle.words.specs.Find.{index}
 use Rattle.host_reader.specs.Spelling.{Verdict, Status, Warning, Bytes, Data, begun, End, Says}
-use Rattle.host_reader.specs.Reading.{field, stands, two_of, marks, verdicts, statuses, warnings, front_in, state_in, data_byte, content_end, text_at, reply_in, alert_in, info_in, said_in, right_end, ended, message_in, read_message}
+use Rattle.host_reader.specs.Reading.{two_of, marks, verdicts, statuses, warnings, second, kind_at, front_in, state_in, data_byte, content_end, text_at, reply_in, alert_in, info_in, said_in, right_end, ended, read_message}
+use Rattle.host_reader.specs.declared.State.{State}
+use Rattle.host_reader.specs.declared.Text.{Text}
 use Rattle.host_reader.specs.declared.Said.{Said}
 use Rattle.host_reader.specs.declared.Said.TheVariants.{Reply, Alert, Info}
-use Rattle.host_reader.specs.declared.MessageRead.TheVariants as Read
-use Rattle.host_reader.proofs.Answers.{whole}
-use Rattle.host_reader.proofs.Spelled.{Two, two, Four, four, verdict_read, verdict_two, verdict_bytes, status_read, status_four, status_bytes, warning_read, warning_two, warning_bytes, bytes_span, data_bytes, trail_bytes, end_span, end_read}
+use Rattle.host_reader.specs.declared.Kind.{Kind}
+use Rattle.host_reader.specs.declared.Kind.TheVariants as Kinds
+use Rattle.host_reader.proofs.Spelled.{Known, Two, two, Four, four, verdict_read, verdict_two, verdict_bytes, status_read, status_four, status_bytes, warning_read, warning_two, warning_bytes, bytes_span, data_bytes, trail_bytes, end_span, end_read}
 
 -- a line as far as the axis, byte by byte but for its mark, and s behind that
 abbrev pub line_of : List ℕ → ℕ → ℕ → ℕ → List ℕ → List ℕ
@@ -66,8 +68,7 @@ unfolding trail
 last_word w e = append_assoc (32 ∷ w) [] e
 
 -- ---- the front
-two_digits : {c d t u : ℕ} → Digit 10 c t → Digit 10 d u → two_of (value_of c) (value_of d) ≡ t * 10 + u
-unfolding two_of
+two_digits : {c d t u : ℕ} → Digit 10 c t → Digit 10 d u → two_of (value_of c) (value_of d) ≡ Some (t * 10 + u)
 two_digits {t = t} {u} x y = simp (
   digit_value (omega arith) x,
   digit_value (omega arith) y,
@@ -75,35 +76,22 @@ two_digits {t = t} {u} x y = simp (
   lt-ltb u 10 (digit_below y),
 )
 
-front_read : {mark : List ℕ} {c b k t u j : ℕ} (s : List ℕ) → One mark → index mark marks < 3 → Digit 10 c t → Digit 10 b u
-    → 1 ≤ t * 10 + u → Digit 10 k j
-    → front_in (line_of mark c b k s) ≡ record { mark = index mark marks; address = t * 10 + u; axis = j; right = true }
-unfolding front_in stands field text same
-front_read {t = t} {u} {j} s (one {m}) i x y some z =
-    rw (
-      two_digits x y,
-      digit_value (omega arith) z,
-      lt-ltb (index (m ∷ []) marks) 3 i,
-      le-leb 1 (t * 10 + u) some,
-      lt-ltb j 10 (digit_below z),
-    )
+front_read : {mark : List ℕ} {kind : Kind} {c b k t u j : ℕ} (s : List ℕ) → One mark → kind_at (index mark marks) ≡ Some kind
+    → Digit 10 c t → Digit 10 b u → 1 ≤ t * 10 + u → Digit 10 k j
+    → front_in (line_of mark c b k s) ≡ Some (record { kind = kind; address = t * 10 + u; axis = j })
+unfolding text same
+front_read {t = t} {u} {j} s one is x y some z =
+    rw (is, two_digits x y, digit_value (omega arith) z, le-leb 1 (t * 10 + u) some, lt-ltb j 10 (digit_below z))
 
 -- ---- a state, with r behind it
-state_found : {s w : List ℕ} (r : List ℕ) → Four s → Two w → state_in (s ++ (32 ∷ (w ++ r)))
-    ≡ record {
-      state = record { busy = eqb (index s statuses) 1; warning = index w warnings };
-      right = ltb (index s statuses) 2 && true && ltb (index w warnings) 9;
-    }
-unfolding state_in stands field text same
-state_found r four two = refl
+state_found : {s w : List ℕ} {busy : Bool} {i : ℕ} (r : List ℕ) → Four s → Two w → second (index s statuses) ≡ Some busy
+    → Known w i warnings 9 → state_in (s ++ (32 ∷ (w ++ r))) ≡ Some (record { busy = busy; warning = i })
+unfolding text same
+state_found {i = i} r four two b f = rw (b, f.place, lt-ltb i 9 f.below)
 
 state_read : {s w : List ℕ} {busy : Bool} {i : ℕ} (r : List ℕ) → Status s busy → Warning w i
-    → state_in (s ++ (32 ∷ (w ++ r))) ≡ record { state = record { busy = busy; warning = i }; right = true }
-state_read {s} {w} {i = i} r status warning =
-    let b = status_read status in
-    let f = warning_read warning in
-    state_found r (status_four status) (warning_two warning)
-    ∙ rw (b.says, f.place, lt-ltb (index s statuses) 2 b.below, lt-ltb i 9 f.below)
+    → state_in (s ++ (32 ∷ (w ++ r))) ≡ Some (record { busy = busy; warning = i })
+state_read r status warning = state_found r (status_four status) (warning_two warning) (status_read status) (warning_read warning)
 
 -- ---- a text: it does not begin with a space
 no_space_lem : {d : List ℕ} (e : List ℕ) → Data d → same (take 1 (d ++ e)) (text " ") ≡ false
@@ -114,8 +102,8 @@ some_data : {d : List ℕ} → Data d → 0 < length d
 some_data (begun w b) = omega arith
 
 text_read : (l : List ℕ) (i end : ℕ) {d : List ℕ} (e : List ℕ) → Data d → drop i l ≡ d ++ e → end ≡ i + length d
-    → text_at l i end ≡ record { text = record { place = i; length = length d }; right = true }
-unfolding text_at stands field text
+    → text_at l i end ≡ Some (record { place = i; length = length d })
+unfolding text
 text_read l i end {d} e x behind size =
     let n : end - i ≡ length d = omega arith in
     rw (behind, n, no_space_lem e x, lt-ltb i end (omega (arith, some_data x)))
@@ -139,14 +127,11 @@ module _ (c b k : ℕ) where
   abbrev reply_line : List ℕ → List ℕ → List ℕ → List ℕ → List ℕ
   reply_line v s w t = line_of (text "@") c b k (32 ∷ (v ++ (32 ∷ (s ++ (32 ∷ (w ++ (32 ∷ t)))))))
 
-  reply_found : {v s w : List ℕ} (t : List ℕ) (end : ℕ) → Two v → Four s → Two w → reply_in (reply_line v s w t) end
-      ≡ record {
-        said = Reply (eqb (index v verdicts) 1) (state_in (s ++ (32 ∷ (w ++ (32 ∷ t))))).state (text_at (reply_line v s w t) 17 end).text;
-        right = ltb (index v verdicts) 2 && true && (state_in (s ++ (32 ∷ (w ++ (32 ∷ t))))).right && true
-            && (text_at (reply_line v s w t) 17 end).right;
-      }
-  unfolding reply_in stands field text same
-  reply_found t end two four two = refl
+  reply_found : {v s w : List ℕ} {ok : Bool} {state : State} {words : Text} (t : List ℕ) (end : ℕ) → Two v → Four s → Two w
+      → second (index v verdicts) ≡ Some ok → state_in (s ++ (32 ∷ (w ++ (32 ∷ t)))) ≡ Some state
+      → text_at (reply_line v s w t) 17 end ≡ Some words → reply_in (reply_line v s w t) end ≡ Some (Reply ok state words)
+  unfolding text same
+  reply_found t end two four two o x y = rw (o, x, y)
 
   data_behind : {v s w : List ℕ} (t : List ℕ) → Two v → Four s → Two w → drop 17 (reply_line v s w t) ≡ t
   unfolding text
@@ -165,30 +150,25 @@ module _ (c b k : ℕ) where
   module _ {s w : List ℕ} {busy : Bool} {i : ℕ} (status : Status s busy) (warning : Warning w i) (e : List ℕ) where
     reply-said : {v d : List ℕ} {ok : Bool} → Verdict v ok → Data d
         → reply_in (line_of (text "@") c b k (trail (v ∷ s ∷ w ∷ d ∷ []) ++ e)) (5 + length (trail (v ∷ s ∷ w ∷ d ∷ [])))
-        ≡ record {
-          said = Reply ok (record { busy = busy; warning = i })
-              (record { place = length (text "@" ++ body_of c b k (v ∷ s ∷ w ∷ [] ∷ [])); length = length d });
-          right = true;
-        }
+        ≡ Some (Reply ok (record { busy = busy; warning = i })
+        (record { place = length (text "@" ++ body_of c b k (v ∷ s ∷ w ∷ [] ∷ [])); length = length d }))
     reply-said {v} {d} verdict x =
         let p = verdict_two verdict in
         let q = status_four status in
         let r = warning_two warning in
-        let o = verdict_read verdict in
         let t = text_read (reply_line v s w (d ++ e)) 17 (17 + length d) e x (data_behind (d ++ e) p q r) refl in
         rw (reply_words v s w d e, reply_size d p q r, reply_place p q r)
-        (reply_found (d ++ e) (17 + length d) p q r
-        ∙ rw (o.says, lt-ltb (index v verdicts) 2 o.below, state_read (32 ∷ (d ++ e)) status warning, t))
+        (reply_found (d ++ e) (17 + length d) p q r (verdict_read verdict) (state_read (32 ∷ (d ++ e)) status warning) t)
 
     alert-said : alert_in (line_of (text "!") c b k (trail (s ∷ w ∷ []) ++ e)) (5 + length (trail (s ∷ w ∷ [])))
-        ≡ record { said = Alert (record { busy = busy; warning = i }); right = true }
-    unfolding alert_in stands field text same
+        ≡ Some (Alert (record { busy = busy; warning = i }))
+    unfolding text same
     alert-said = rw (alert_words s w e, alert_size (status_four status) (warning_two warning), state_read e status warning)
 
   module _ (e : List ℕ) where
     info-said : {d : List ℕ} → Data d → info_in (line_of (text "#") c b k (trail (d ∷ []) ++ e)) (5 + length (trail (d ∷ [])))
-        ≡ record { said = Info (record { place = 6; length = length d }); right = true }
-    unfolding info_in stands field text same
+        ≡ Some (Info (record { place = 6; length = length d }))
+    unfolding text same
     info-said {d} x =
         rw (
           last_word d e,
@@ -199,17 +179,19 @@ module _ (c b k : ℕ) where
 
   pub record Heard (mark : List ℕ) (ws : List (List ℕ)) (said : Said) (e : List ℕ) : Type 0 where
     pub byte : One mark
-    pub known : index mark marks < 3
+    pub kind : Kind
+    pub known : kind_at (index mark marks) ≡ Some kind
     pub printed : Bytes (trail ws)
-    pub is : said_in (line_of mark c b k (trail ws ++ e)) (index mark marks) (5 + length (trail ws)) ≡ record { said = said; right = true }
+    pub is : said_in (line_of mark c b k (trail ws ++ e)) kind (5 + length (trail ws)) ≡ Some said
 
   pub heard : {mark : List ℕ} {ws : List (List ℕ)} {said : Said} (e : List ℕ) → Says (c ∷ b ∷ []) (k ∷ []) mark ws said
       → Heard mark ws said e
-  unfolding said_in info_in marks index text same trail spaced
+  unfolding kind_at marks index text same trail spaced
   heard e (Says.reply verdict status warning x) =
       record {
         byte = at_sign;
-        known = omega arith;
+        kind = Kinds.Reply;
+        known = refl;
         printed = trail_bytes (more (verdict_bytes verdict) (more (status_bytes status) (more (warning_bytes warning)
             (more (data_bytes x) none))));
         is = reply-said status warning e verdict x;
@@ -217,12 +199,14 @@ module _ (c b k : ℕ) where
   heard e (Says.alert status warning) =
       record {
         byte = bang;
-        known = omega arith;
+        kind = Kinds.Alert;
+        known = refl;
         printed = trail_bytes (more (status_bytes status) (more (warning_bytes warning) none));
         is = alert-said status warning e;
       }
-  heard e (Says.info x) = record { byte = hash; known = omega arith; printed = trail_bytes (more (data_bytes x) none); is = info-said e x }
-  heard e Says.empty = record { byte = hash; known = omega arith; printed = trail_bytes none; is = refl }
+  heard e (Says.info x) =
+      record { byte = hash; kind = Kinds.Info; known = refl; printed = trail_bytes (more (data_bytes x) none); is = info-said e x }
+  heard e Says.empty = record { byte = hash; kind = Kinds.Info; known = refl; printed = trail_bytes none; is = refl }
 
 -- ---- the whole
 module _ {mark : List ℕ} {c b k t u j : ℕ} {ws : List (List ℕ)} {said : Said} {e : List ℕ} (x : Digit 10 c t) (y : Digit 10 b u)
@@ -231,14 +215,12 @@ module _ {mark : List ℕ} {c b k t u j : ℕ} {ws : List (List ℕ)} {said : Sa
   l = line_of mark c b k (trail ws ++ e)
 
   content : content_end l ≡ 5 + length (trail ws)
-  unfolding content_end
   content = go h.byte
     where
       go : {mark : List ℕ} → One mark → 5 + span data_byte (drop 5 (line_of mark c b k (trail ws ++ e))) ≡ 5 + length (trail ws)
       go one = ap (λ (n : ℕ). 5 + n) (bytes_span e h.printed (end_span end))
 
   right_end_lem : ended l (5 + length (trail ws)) ≡ true
-  unfolding ended
   right_end_lem = go h.byte
     where
       go : {mark : List ℕ} → One mark → right_end (drop 1 (take (5 + length (trail ws)) (line_of mark c b k (trail ws ++ e))))
@@ -248,8 +230,7 @@ module _ {mark : List ℕ} {c b k t u j : ℕ} {ws : List (List ℕ)} {said : Sa
           rw (take_at front e (5 + length (trail ws)) (omega arith), drop_at front e (5 + length (trail ws)) (omega arith))
           (rw (body_is c b k ws) at (end_read end))
 
-  pub read_whole : length l ≤ 96 → read_message l ≡ Read.Message (record { address = t * 10 + u; axis = j; said = said })
-  unfolding message_in
+  pub read_whole : length l ≤ 96 → read_message l ≡ Some (record { address = t * 10 + u; axis = j; said = said })
   read_whole short =
       let front = front_read (trail ws ++ e) h.byte h.known x y some z in
-      whole l short (rw (front, content, h.is, right_end_lem)) ∙ ap Read.Message (rw (front, content, h.is))
+      rw (le-leb (length l) 96 short, front, content, h.is, right_end_lem)

@@ -5,6 +5,7 @@ use mathlib.Core.List.{List, [], ◌∷◌, ◌++◌, append_assoc}
 use Prim.Native.Nat.{ℕ}
 use lib.ListN.{length}
 use lib.Seq.{drop_at, take-append_seam}
+use Rattle.std.specs.Prelude.{Some}
 use Rattle.laws.specs.Text.{text, spaced}
 use Rattle.host_reader.specs.Spelling.{Data, Says}
 use Rattle.host_reader.specs.Spelling as spelling
@@ -12,7 +13,6 @@ use Rattle.host_reader.specs.Reading.{field, read_message}
 use Rattle.host_reader.specs.declared.Said.{Said}
 use Rattle.host_reader.specs.declared.Said.TheVariants.{Reply, Alert, Info}
 use Rattle.host_reader.specs.declared.Message.{Message}
-use Rattle.host_reader.specs.declared.MessageRead.TheVariants as Read
 use Rattle.host_reader.proofs.Messages.{message_of}
 
 -- a last word stands behind all that would stand before an empty one
@@ -23,7 +23,6 @@ spaced_last w (v ∷ ws) d =
     ap (λ (l : List ℕ). w ++ (32 ∷ l)) (spaced_last v ws d) ∙ sym (append_assoc w (32 ∷ spaced (v ∷ (ws ++ ([] ∷ [])))) d)
 
 behind : (x d e : List ℕ) → field ((x ++ d) ++ e) (length x) (length d) ≡ d
-unfolding field
 behind x d e = rw (append_assoc x d e, drop_at x (d ++ e) (length x) refl) (take-append_seam d e)
 
 pub text_stands : (mark w : List ℕ) (ws : List (List ℕ)) (d e : List ℕ)
@@ -45,7 +44,6 @@ TextIn l (Alert state) = Unit
 TextIn l (Info t) = InfoText (field l t.place t.length)
 
 none_stands : (l : List ℕ) (i : ℕ) → InfoText (field l i 0)
-unfolding field
 none_stands l i = empty
 
 spelled_text : {l : List ℕ} {h : Message} → spelling.Message l h → TextIn l h.said
@@ -58,5 +56,5 @@ spelled_text (spelling.message {a = a} {k} {e} x y Says.empty end short) =
     none_stands (text "#" ++ spaced (a ∷ k ∷ []) ++ e) (length (text "#" ++ spaced (a ∷ k ∷ [])))
 
 -- whatever is read as a message
-pub read_text : (l : List ℕ) (h : Message) → read_message l ≡ Read.Message h → TextIn l h.said
+pub read_text : (l : List ℕ) (h : Message) → read_message l ≡ Some h → TextIn l h.said
 read_text l h e = spelled_text (message_of l h e)

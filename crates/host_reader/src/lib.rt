@@ -46,38 +46,20 @@ pub struct Message {
     pub said: Said,
 }
 
+// The kinds of messages, each with a mark of its own.
 #[derive(Clone, Copy)]
-pub enum MessageRead {
-    Message(Message),
-    NotReply,
+enum Kind {
+    Reply,
+    Alert,
+    Info,
 }
 
-// Parts of a line as they are read, each with whether it is right. The front: the place of its mark in the list of marks; an
-// address, 0 where there is none; an axis, above 9 where there is none.
+// What stands in front of every message: its mark, which tells the kind, address and axis.
 #[derive(Clone, Copy)]
 struct Front {
-    mark: usize,
+    kind: Kind,
     address: u64,
     axis: u64,
-    right: bool,
-}
-
-#[derive(Clone, Copy)]
-struct StateRead {
-    state: State,
-    right: bool,
-}
-
-#[derive(Clone, Copy)]
-struct TextRead {
-    text: Text,
-    right: bool,
-}
-
-#[derive(Clone, Copy)]
-struct SaidRead {
-    said: Said,
-    right: bool,
 }
 
 pub(crate) fn data_byte(c: u8) -> bool
@@ -90,13 +72,7 @@ pub(crate) fn data_byte(c: u8) -> bool
 pub fn all_data(s: &[u8]) -> bool
     ensures { result ≡ all data_byte s.now }
 {
-    let mut every = true;
-    let mut i: usize = 0;
-    while i < s.len() {
-        every = every & data_byte(s[i]);
-        i += 1;
-    }
-    every
+    s.iter().all(|c| data_byte(*c))
 }
 
 pub mod reading;

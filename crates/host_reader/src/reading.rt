@@ -4,28 +4,18 @@ ghost use Rattle.std.specs.Prelude.{◌≡◌};
 ghost use Rattle.host_reader.specs.Reading.{content_end, right_end, ended, text_at, reply_in, alert_in, info_in, said_in, read_message, number_of, message_refusal};
 
 pub use crate::reading::fields::field;
-use crate::reading::fields::{byte_at, read_front, read_state, rest, stands_at};
-use crate::{
-    ALERT_END, DATA_PLACE, FRONT_END, Message, MessageRead, Said, SaidRead, TEXT_PLACE, Text,
-    TextRead, data_byte,
-};
+use crate::reading::fields::{byte_at, read_front, read_state, rest, second_of, stands_at};
+use crate::{ALERT_END, DATA_PLACE, FRONT_END, Kind, Message, Said, TEXT_PLACE, Text, data_byte};
 use reply::LONGEST_REPLY;
-use units::lesser;
-use words::{find_word, same_bytes};
+use words::same_bytes;
 
 // The place behind all that stands before checksum and footer.
 fn content_end(line: &[u8]) -> usize
     ensures { result ≡ content_end line.now }
 {
-    let mut i: usize = FRONT_END;
-    while i < line.len() {
-        if data_byte(line[i]) {
-            i += 1;
-        } else {
-            return i;
-        }
-    }
-    i
+    let behind = rest(line, FRONT_END);
+    let stop = behind.iter().position(|c| !data_byte(*c));
+    FRONT_END + stop.unwrap_or(behind.len())
 }
 
 // Is e an end behind s: CR LF, or the checksum of s and CR LF?
@@ -50,99 +40,79 @@ fn is_ended(line: &[u8], end: usize) -> bool
 }
 
 // The text from a place to the end.
-fn text_at(line: &[u8], at: usize, end: usize) -> TextRead
+fn text_at(line: &[u8], at: usize, end: usize) -> Option<Text>
     ensures { result ≡ text_at line.now at end }
 {
     let space = stands_at(line, at, b" ");
-    TextRead {
-        text: Text {
+    if (at < end) & !space {
+        Some(Text {
             place: at,
-            length: end - lesser(at, end),
-        },
-        right: (at < end) & !space,
+            length: end - at,
+        })
+    } else {
+        None
     }
 }
 
-fn reply_in(line: &[u8], end: usize) -> SaidRead
+fn reply_in(line: &[u8], end: usize) -> Option<Said>
     ensures { result ≡ reply_in line.now end }
 {
+    let ok = second_of(field(line, 6, 2), b"RJ OK")?;
+    let state = read_state(rest(line, 9))?;
+    let data = text_at(line, DATA_PLACE, end)?;
     let a = stands_at(line, 5, b" ");
-    let verdict = find_word(field(line, 6, 2), b"RJ OK");
     let b = stands_at(line, 8, b" ");
-    let s = read_state(rest(line, 9));
     let c = stands_at(line, 16, b" ");
-    let t = text_at(line, DATA_PLACE, end);
-    let state = s.state;
-    let data = t.text;
-    SaidRead {
-        said: Said::Reply(verdict == 1, state, data),
-        right: a & (verdict < 2) & b & s.right & c & t.right,
-    }
+    (a & b & c).then_some(Said::Reply(ok, state, data))
 }
 
-fn alert_in(line: &[u8], end: usize) -> SaidRead
+fn alert_in(line: &[u8], end: usize) -> Option<Said>
     ensures { result ≡ alert_in line.now end }
 {
-    let a = stands_at(line, 5, b" ");
-    let s = read_state(rest(line, 6));
-    let state = s.state;
-    SaidRead {
-        said: Said::Alert(state),
-        right: a & s.right & (end == ALERT_END),
-    }
+    let state = read_state(rest(line, 6))?;
+    let space = stands_at(line, 5, b" ");
+    (space & (end == ALERT_END)).then_some(Said::Alert(state))
 }
 
-fn info_in(line: &[u8], end: usize) -> SaidRead
+fn info_in(line: &[u8], end: usize) -> Option<Said>
     ensures { result ≡ info_in line.now end }
 {
     if end == FRONT_END {
-        return SaidRead {
-            said: Said::Info(Text {
-                place: FRONT_END,
-                length: 0,
-            }),
-            right: true,
-        };
+        return Some(Said::Info(Text {
+            place: FRONT_END,
+            length: 0,
+        }));
     }
-    let a = stands_at(line, 5, b" ");
-    let t = text_at(line, TEXT_PLACE, end);
-    let text = t.text;
-    SaidRead {
-        said: Said::Info(text),
-        right: a & t.right,
-    }
+    let text = text_at(line, TEXT_PLACE, end)?;
+    stands_at(line, 5, b" ").then_some(Said::Info(text))
 }
 
-// What is said behind the axis, by the place of the mark.
-fn said_in(line: &[u8], mark: usize, end: usize) -> SaidRead
-    ensures { result ≡ said_in line.now mark end }
+// What is said behind the axis.
+fn said_in(line: &[u8], kind: Kind, end: usize) -> Option<Said>
+    ensures { result ≡ said_in line.now kind end }
 {
-    match mark {
-        0 => reply_in(line, end),
-        1 => alert_in(line, end),
-        _ => info_in(line, end),
+    match kind {
+        Kind::Reply => reply_in(line, end),
+        Kind::Alert => alert_in(line, end),
+        Kind::Info => info_in(line, end),
     }
 }
 
-pub fn read_message(line: &[u8]) -> MessageRead
+pub fn read_message(line: &[u8]) -> Option<Message>
     ensures read { result ≡ read_message line.now }
     ensures number { number_of result ≡ message_refusal line.now }
 {
     if LONGEST_REPLY < line.len() {
-        return MessageRead::NotReply;
+        return None;
     }
     let end = content_end(line);
-    let f = read_front(line);
-    let s = said_in(line, f.mark, end);
-    if f.right & s.right & is_ended(line, end) {
-        let said = s.said;
-        return MessageRead::Message(Message {
-            address: f.address,
-            axis: f.axis,
-            said,
-        });
-    }
-    MessageRead::NotReply
+    let front = read_front(line)?;
+    let said = said_in(line, front.kind, end)?;
+    is_ended(line, end).then_some(Message {
+        address: front.address,
+        axis: front.axis,
+        said,
+    })
 }
 
 mod fields;

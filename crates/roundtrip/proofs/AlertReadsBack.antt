@@ -7,6 +7,7 @@ use Prim.Native.Nat.{ℕ}
 use native.Mathlib.Omega.{arith}
 use lib.ListN.{length, drop}
 use lib.Seq.{take_at}
+use Rattle.std.specs.Prelude.{Some}
 use Rattle.units.specs.Units.{place}
 use Rattle.units.specs.declared.Number.{Number}
 use Rattle.axis.specs.Reports.{report_of}
@@ -21,13 +22,12 @@ use Rattle.carriage.proofs.Demands.{sent_in}
 use Rattle.carriage.proofs.Replies.{shown_digit}
 use Rattle.carriage.proofs.Room.{by_report}
 use Rattle.host_reader.specs.Reading.{read_message}
-use Rattle.host_reader.specs.declared.MessageRead.TheVariants as Read
 use Rattle.host_reader.proofs.ReadsBack.{heard_alert, alert_back}
 use Rattle.roundtrip.proofs.Shown.{good_address}
 
 -- What the host understands of it: an alert of that axis, with the address, status and highest warning of the next record.
 abbrev pub Alerted : ℕ → Stepped → Type 0
-Alerted k s = read_message (sent_in s) ≡ Read.Message (heard_alert (head_of s.answer.next k true))
+Alerted k s = read_message (sent_in s) ≡ Some (heard_alert (head_of s.answer.next k true))
 
 alert_heard : (d : Device) (k : ℕ) (b : List ℕ) → good d ≡ true → Alerted k (written 0 d (alert_of d k) b)
 unfolding written alert_of head_of

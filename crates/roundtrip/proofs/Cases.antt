@@ -76,11 +76,11 @@ abbrev numbered : Outcome → ℕ
 numbered o = o.answer.number
 
 pub number_cases : map (λ r. numbered (written r)) rows ≡ map (λ r. r.number) rows
-unfolding rows write_line writer_refusal first_of unspellable line_text line_end line_words spaced text fold data_byte name_of cut is_space no_space
+unfolding rows write_line writer_refusal first_of unspellable line_text line_end line_words spaced text fold name_of cut is_space no_space
     grow_at words_from total checksum sum_text last_digit digits_within digits decimal two_digits hex_digit hex_pair
 number_cases = refl
 
 pub line_cases : map (λ r. take (written r).answer.length (written r).buffer) rows ≡ map (λ r. r.line) rows
-unfolding rows write_line writer_refusal first_of unspellable line_text line_end line_words spaced text fold data_byte name_of cut is_space no_space
+unfolding rows write_line writer_refusal first_of unspellable line_text line_end line_words spaced text fold name_of cut is_space no_space
     grow_at words_from total checksum sum_text last_digit digits_within digits decimal two_digits hex_digit hex_pair
 line_cases = refl

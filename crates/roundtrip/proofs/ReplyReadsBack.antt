@@ -9,6 +9,7 @@ use native.Mathlib.Omega.{arith}
 use lib.Dec.{eqb}
 use lib.ListN.{length, take, drop}
 use lib.Seq.{take_at}
+use Rattle.std.specs.Prelude.{Option, None, Some}
 use Rattle.laws.specs.Lists.{fold}
 use Rattle.units.specs.Units.{place}
 use Rattle.units.specs.declared.Number.{Number}
@@ -41,8 +42,7 @@ use Rattle.host_reader.specs.Spelling.{Data}
 use Rattle.host_reader.specs.Reading.{field, read_message}
 use Rattle.host_reader.specs.declared.Said.{Said}
 use Rattle.host_reader.specs.declared.Said.TheVariants.{Reply, Alert, Info}
-use Rattle.host_reader.specs.declared.MessageRead.{MessageRead}
-use Rattle.host_reader.specs.declared.MessageRead.TheVariants as Read
+use Rattle.host_reader.specs.declared.Message.{Message}
 use Rattle.host_reader.proofs.ReadsBack.{heard_reply, heard_info, reply_text, reply_back}
 use Rattle.host_reader.proofs.HelpReadsBack.{help_reads_back}
 use Rattle.roundtrip.proofs.Rejecting.{Rejecting, bad_command_lem, bad_data_lem, bad_axis_lem, device_only_lem, no_access, parked, status_busy_lem, name_data, device_rejects, line_rejects}
@@ -50,15 +50,15 @@ use Rattle.roundtrip.proofs.ReadWords.{carried_words}
 use Rattle.roundtrip.proofs.Shown.{good_address, data_said}
 
 -- an info line of the device, and its text
-abbrev pub heard : ℕ → List ℕ → MessageRead
-heard address t = Read.Message (heard_info address 0 t)
+abbrev pub heard : ℕ → List ℕ → Option Message
+heard address t = Some (heard_info address 0 t)
 
 -- What the host understands of a reply of the next record for the axis k: that it is a reply; address, status and highest warning of
 -- that record, the axis, OK or not, and the data, byte for byte, from byte 17 on, as many as the message says.
 -- Behind the reply stand the info lines, of that address and axis 0, one for each text, and nothing else.
 pub record Heard (s : Stepped) (k : ℕ) (ok : Bool) (words : List ℕ) (infos texts : List (List ℕ)) : Type 0 where
   pub stands : sent_in s ≡ reply_of s.answer.next k ok words ++ joined infos
-  pub message : read_message (reply_of s.answer.next k ok words) ≡ Read.Message (heard_reply (head_of s.answer.next k ok) words)
+  pub message : read_message (reply_of s.answer.next k ok words) ≡ Some (heard_reply (head_of s.answer.next k ok) words)
   pub data_is : field (reply_of s.answer.next k ok words) 17 (length words) ≡ words
   pub informed : map read_message infos ≡ map (heard (place s.answer.next.comm.address.0)) texts
 
@@ -177,9 +177,9 @@ size_in (Reply ok state words) = words.length
 size_in (Alert state) = 0
 size_in (Info words) = words.length
 
-abbrev size : MessageRead → ℕ
-size (Read.Message m) = size_in m.said
-size Read.NotReply = 0
+abbrev size : Option Message → ℕ
+size (Some m) = size_in m.said
+size None = 0
 
 -- Replies with different data differ: a reply is heard with one data alone.
 pub one_data : {s t : Stepped} {k j : ℕ} {ok fine : Bool} {words other : List ℕ} {is us js vs : List (List ℕ)}

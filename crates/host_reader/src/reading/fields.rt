@@ -2,25 +2,25 @@
 // The rules are in specs/Reading.antt.
 ghost use Rattle.std.specs.Prelude.{◌≡◌, take, drop, get_or};
 ghost use Rattle.numbers.specs.Reading.{value_of};
-ghost use Rattle.host_reader.specs.Reading.{stands, two_of, front_in, state_in};
+ghost use Rattle.words.specs.Cutting.{cut};
+ghost use Rattle.words.specs.Find.{index};
+ghost use Rattle.host_reader.specs.Reading.{stands, two_of, second, kind_of, front_in, state_in};
 
-use crate::{Front, State, StateRead};
-use units::lesser;
+use crate::{Front, Kind, State};
 use words::{find_word, same_bytes};
 
 // The byte at a place, 0 beyond the end.
 pub fn byte_at(s: &[u8], at: usize) -> u8
     ensures { result ≡ get_or s.now at 0 }
 {
-    if at < s.len() { s[at] } else { 0 }
+    s.get(at).copied().unwrap_or(0)
 }
 
 // What stands from a place on.
 pub fn rest(s: &[u8], at: usize) -> &[u8]
     ensures { result.now ≡ drop at s.now }
 {
-    let from = lesser(at, s.len());
-    &s[from..]
+    &s[at.min(s.len())..]
 }
 
 // The bytes from a place on, n of them at most.
@@ -28,8 +28,7 @@ pub fn field(s: &[u8], at: usize, n: usize) -> &[u8]
     ensures { result.now ≡ take n (drop at s.now) }
 {
     let r = rest(s, at);
-    let size = lesser(n, r.len());
-    &r[..size]
+    &r[..n.min(r.len())]
 }
 
 // Does the text w stand at a place?
@@ -46,45 +45,58 @@ fn digit_at(s: &[u8], at: usize) -> u64
     numbers::digits::digit_value(byte_at(s, at))
 }
 
-// The number that two digits say, 0 where one of them is none.
-fn two_of(tens: u64, ones: u64) -> u64
+// The number that two digits say.
+fn two_of(tens: u64, ones: u64) -> Option<u64>
     ensures { result ≡ two_of tens ones }
 {
     if (tens < 10) & (ones < 10) {
-        tens * 10 + ones
+        Some(tens * 10 + ones)
     } else {
-        0
+        None
     }
+}
+
+// The kind that a mark stands for.
+fn kind_of(mark: u8) -> Option<Kind>
+    ensures { result ≡ kind_of mark }
+{
+    match mark {
+        b'@' => Some(Kind::Reply),
+        b'!' => Some(Kind::Alert),
+        b'#' => Some(Kind::Info),
+        _ => None,
+    }
+}
+
+// Which of two words is w: is it the second?
+pub(crate) fn second_of(w: &[u8], two: &[u8]) -> Option<bool>
+    ensures { result ≡ second (index w.now (cut two.now)) }
+{
+    let place = find_word(w, two);
+    (place < 2).then_some(place == 1)
 }
 
 // Mark, address and axis: the front of a message of any kind.
-pub(crate) fn read_front(line: &[u8]) -> Front
+pub(crate) fn read_front(line: &[u8]) -> Option<Front>
     ensures { result ≡ front_in line.now }
 {
-    let mark = find_word(field(line, 0, 1), b"@ ! #");
-    let address = two_of(digit_at(line, 1), digit_at(line, 2));
+    let kind = kind_of(byte_at(line, 0))?;
+    let address = two_of(digit_at(line, 1), digit_at(line, 2))?;
     let parted = stands_at(line, 3, b" ");
     let axis = digit_at(line, 4);
-    Front {
-        mark,
+    ((1 <= address) & parted & (axis < 10)).then_some(Front {
+        kind,
         address,
         axis,
-        right: (mark < 3) & (1 <= address) & parted & (axis < 10),
-    }
+    })
 }
 
 // Status and warning, from the front of s on.
-pub(crate) fn read_state(s: &[u8]) -> StateRead
+pub(crate) fn read_state(s: &[u8]) -> Option<State>
     ensures { result ≡ state_in s.now }
 {
-    let status = find_word(field(s, 0, 4), b"IDLE BUSY");
+    let busy = second_of(field(s, 0, 4), b"IDLE BUSY")?;
     let parted = stands_at(s, 4, b" ");
     let warning = find_word(field(s, 5, 2), b"-- FD FQ FS FT FB FP FE WR");
-    StateRead {
-        state: State {
-            busy: status == 1,
-            warning,
-        },
-        right: (status < 2) & parted & (warning < 9),
-    }
+    (parted & (warning < 9)).then_some(State { busy, warning })
 }
