@@ -50,7 +50,7 @@ pub fn put_number(buf: &mut [u8], at: usize, n: u64) -> usize
     if 10 <= n {
         put_digits(buf, at, n)
     } else {
-        put_byte(buf, at, 48 + n as u8)
+        put_byte(buf, at, b'0' + n as u8)
     }
 }
 
@@ -60,10 +60,10 @@ fn put_digits(buf: &mut [u8], at: usize, n: u64) -> usize
 {
     let last = (n % 10) as u8;
     if n < 10 {
-        put_byte(buf, at, 48 + last)
+        put_byte(buf, at, b'0' + last)
     } else {
         let next = put_digits(buf, at, n / 10);
-        put_byte(buf, next, 48 + last)
+        put_byte(buf, next, b'0' + last)
     }
 }
 
@@ -92,16 +92,19 @@ pub fn put_numbered(buf: &mut [u8], at: usize, t: &[u8], n: Number) -> usize
 pub fn put_two(buf: &mut [u8], at: usize, n: u64) -> usize
     ensures { Wrote buf.old at (two_digits n) buf.new result }
 {
-    let next = put_byte(buf, at, 48 + (n / 10 % 10) as u8);
-    put_byte(buf, next, 48 + (n % 10) as u8)
+    let next = put_byte(buf, at, b'0' + (n / 10 % 10) as u8);
+    put_byte(buf, next, b'0' + (n % 10) as u8)
 }
 
 // The lower hex digit of n, in upper case.
+#[tactic(auto, using(std::proofs::lemmas::Bool::Decides::nat_tests), unfolding(numbers::specs::Decimal::hex_digit))]
 fn hex_digit(n: u8) -> u8
     ensures { result ≡ hex_digit (n % 16) }
 {
-    let d = n % 16;
-    if d < 10 { 48 + d } else { 55 + d }
+    match n % 16 {
+        d @ 0..=9 => b'0' + d,
+        d => b'A' + d - 10,
+    }
 }
 
 pub fn put_pair(buf: &mut [u8], at: usize, n: u8) -> usize
