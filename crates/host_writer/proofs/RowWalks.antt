@@ -9,7 +9,10 @@ use lib.ListN.{length, get_or, drop, drop_of_length-le}
 use Rattle.laws.specs.Text.{text, same}
 use Rattle.laws.proofs.Spaced.{trail, trail_append}
 use Rattle.words.specs.Cutting.{cut}
-use Rattle.words.specs.Find.{index, entry_at}
+use Rattle.words.specs.Find.{found, entry_at}
+use Rattle.words.proofs.Index.{found_place}
+use Rattle.std.specs.Prelude.{Option, Some}
+use Rattle.std.specs.Option.{unwrap_or}
 use Rattle.words.proofs.Cut.{cut_none}
 use Rattle.words.proofs.Table.{meaning_at, past_table}
 use Rattle.command.specs.declared.forms.Form.{Form}
@@ -71,14 +74,18 @@ module _ (w : List ℕ) (ws : List (List ℕ)) where
   row_later h zero z = absurd (z refl)
   row_later h (suc k) z = rw h (others_are (rows ws) k)
 
--- ---- what stands for a word, by its place k among the names
-module _ (f : Form) (es : List (List ℕ)) (w : List ℕ) (k : ℕ) (e : k ≡ index w (map (λ n. n.word) (carried f es))) where
-  pub stands : trail (entry_at (w ∷ []) k (carried f es)) ≡ trail (words_for f es w)
-  unfolding words_for
-  stands = ap trail (meaning_at (w ∷ []) w (carried f es) k e)
+-- a place that is none of the first four, as the code has it
+pub behind_names : {k : ℕ} (r : Option ℕ) → (((Unit {0} × (k ≡ 0 → ⊥)) × (k ≡ 1 → ⊥)) × (k ≡ 2 → ⊥)) × (k ≡ 3 → ⊥) → r ≡ Some k → 4 ≤ unwrap_or r 4
+behind_names r n e = rw e (omega (arith, n.1, n.0.1, n.0.0.1, n.0.0.0.1))
 
-  pub stands_itself : 4 ≤ k → trail (w ∷ []) ≡ trail (words_for f es w)
-  stands_itself h = ap trail (past_table (w ∷ []) (carried f es) k h) ∙ stands
+-- ---- what stands for a word, by its place r among the names, or none
+module _ (f : Form) (es : List (List ℕ)) (w : List ℕ) (r : Option ℕ) (e : r ≡ found w (map (λ n. n.word) (carried f es))) where
+  pub stands : trail (entry_at (w ∷ []) (unwrap_or r 4) (carried f es)) ≡ trail (words_for f es w)
+  unfolding words_for
+  stands = ap trail (meaning_at (w ∷ []) w (carried f es) (unwrap_or r 4) (rw e (found_place w (map (λ n. n.word) (carried f es)))))
+
+  pub stands_itself : 4 ≤ unwrap_or r 4 → trail (w ∷ []) ≡ trail (words_for f es w)
+  stands_itself h = ap trail (past_table (w ∷ []) (carried f es) (unwrap_or r 4) h) ∙ stands
 
 -- ---- the turns of the walk, at a word w of the words ws, with k rows before the one that is written
 module _ {b : List ℕ} {at : ℕ} {whole : List ℕ} (f : Form) (es : List (List ℕ)) (k : ℕ) {ws : List (List ℕ)} {c : List ℕ} {r : ℕ}

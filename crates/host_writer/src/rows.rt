@@ -26,10 +26,10 @@ fn put_place(buf: &mut [u8], at: usize, w: &[u8], f: Form, message: &[u8]) -> us
 {
     let s = f.setting;
     match words::find_word(w, b"N P SETTING WORDS") {
-        0 => put_numbered(buf, at, b" ", f.first),
-        1 => put_numbered(buf, at, b" ", f.second),
-        2 => put_setting(buf, at, s),
-        3 => put_message(buf, at, message),
+        Some(0) => put_numbered(buf, at, b" ", f.first),
+        Some(1) => put_numbered(buf, at, b" ", f.second),
+        Some(2) => put_setting(buf, at, s),
+        Some(3) => put_message(buf, at, message),
         _ => put_word(buf, at, w),
     }
 }

@@ -1,18 +1,22 @@
 -- The place of a word in a list of words, and a list whose words are all different.
 -- Assumes nothing.
+use Rattle.std.proofs.Common.{Some, None}
+use Rattle.std.specs.Option.{unwrap_or}
+use mathlib.Core.Logic.{⊎_elim}
 use mathlib.Core.Path.{◌≡◌, refl, sym, ap, ◌∙◌}
 use mathlib.Core.Bool.{Bool, true, false, cond, ◌&&◌}
 use mathlib.Core.List.{List, [], ◌∷◌}
 use Prim.Native.Nat.{ℕ, zero, suc, ◌+◌, ◌-◌, ◌≤◌, ◌<◌}
 use native.Mathlib.Omega.{arith}
 use lib.Dec.{eqb}
-use borrow.Author.Tests.{eqb-true}
+use borrow.Author.Tests.{eqb-true, lt-ltb, le-ltb}
 use lib.ListN.{length, get_or, take, drop, drop_of_length-le}
 use Rattle.words.specs.Cutting.{cut}
 use Rattle.words.proofs.Cut.{Part, part_cut, cut_none}
 use Rattle.laws.specs.Text.{same}
 use Rattle.laws.proofs.Bools.{and_left, and_right}
-use Rattle.words.specs.Find.{index}
+use Rattle.laws.proofs.Order.{lt_or_le}
+use Rattle.words.specs.Find.{index, found}
 use Rattle.laws.proofs.Same.{same_true}
 
 pub index_none : (w : List ℕ) → index w [] ≡ 0
@@ -45,20 +49,43 @@ index_le w (v ∷ vs) = go (same w v) (index_le w vs)
     go true ih = omega arith
     go false ih = omega arith
 
--- the loop of `find_word`, which has passed k words and stands at the place at
-module _ (w s : List ℕ) (k at : ℕ) (so : k + index w (cut (drop at s)) ≡ index w (cut s)) where
-  pub none_left : cut (drop at s) ≡ [] → k ≡ index w (cut s)
-  none_left e = let z = index_none w in let y = rw e at so in omega arith
+-- the place that is found, or how many words there are: the place
+pub found_place : (w : List ℕ) (vs : List (List ℕ)) → unwrap_or (found w vs) (length vs) ≡ index w vs
+found_place w vs =
+    ⊎_elim (λ h. rw (lt-ltb (index w vs) (length vs) h))
+    (λ h. rw (le-ltb (index w vs) (length vs) h) (omega (arith, index_le w vs)))
+    (lt_or_le (index w vs) (length vs))
 
-  pub ended : length s ≤ at → k ≡ index w (cut s)
+-- the loop of `find_word`, which has passed k words and stands at the place at
+pub record Passed (w s : List ℕ) (k at : ℕ) : Type 0 where
+  pub place : k + index w (cut (drop at s)) ≡ index w (cut s)
+  pub count : k + length (cut (drop at s)) ≡ length (cut s)
+
+module _ (w s : List ℕ) (k at : ℕ) (so : Passed w s k at) where
+  pub none_left : cut (drop at s) ≡ [] → None ≡ found w (cut s)
+  none_left e =
+      let y = rw (e, index_none w) at so.place in
+      let z = rw e at so.count in
+      let past : length (cut s) ≤ index w (cut s) = omega arith in
+      rw (le-ltb (index w (cut s)) (length (cut s)) past)
+
+  pub ended : length s ≤ at → None ≡ found w (cut s)
   ended h = none_left (ap cut (drop_of_length-le s h) ∙ cut_none)
 
   module _ (a e : ℕ) (p : Part s at a e) where
-    pub here : same w (take (e - a) (drop a s)) ≡ true → k ≡ index w (cut s)
-    here h = let y = rw (part_cut p, index_here w (take (e - a) (drop a s)) (cut (drop e s)) h) at so in omega arith
+    pub here : same w (take (e - a) (drop a s)) ≡ true → Some k ≡ found w (cut s)
+    here h =
+        let y = rw (part_cut p, index_here w (take (e - a) (drop a s)) (cut (drop e s)) h) at so.place in
+        let z = rw (part_cut p) at so.count in
+        let before : index w (cut s) < length (cut s) = omega arith in
+        let is : k ≡ index w (cut s) = omega arith in
+        rw (lt-ltb (index w (cut s)) (length (cut s)) before, is)
 
-    pub past : same w (take (e - a) (drop a s)) ≡ false → k + 1 + index w (cut (drop e s)) ≡ index w (cut s)
-    past h = let y = rw (part_cut p, index_past w (take (e - a) (drop a s)) (cut (drop e s)) h) at so in omega arith
+    pub past : same w (take (e - a) (drop a s)) ≡ false → Passed w s (k + 1) e
+    past h =
+        let y = rw (part_cut p, index_past w (take (e - a) (drop a s)) (cut (drop e s)) h) at so.place in
+        let z = rw (part_cut p) at so.count in
+        record { place = omega arith; count = omega arith }
 
 -- ---- a table whose words are all different: a test that antt computes, and what it says of each place
 abbrev places : List (List ℕ) → ℕ → List (List ℕ) → Bool

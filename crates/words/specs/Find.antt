@@ -1,11 +1,16 @@
 -- A word's place in a list of words, and its meaning in a table.
 -- Where the word is not in it, the place is the list's length, and the meaning is the one given for that.
-use Rattle.std.specs.Prelude.{cond, List, [], ◌∷◌, map, ℕ, suc, get_or}
+use Rattle.std.specs.Prelude.{cond, List, [], ◌∷◌, map, ℕ, suc, get_or, ltb, length, Option}
+use Rattle.std.specs.Bool.{then_some}
 use Rattle.laws.specs.Text.{same}
 
 unfoldable pub index : List ℕ → List (List ℕ) → ℕ
 index w [] = 0
 index w (v ∷ vs) = cond (same w v) 0 (suc (index w vs))
+
+-- the place as the code has it: none where the word is not in the list
+abbrev pub found : List ℕ → List (List ℕ) → Option ℕ
+found w vs = then_some (ltb (index w vs) (length vs)) (index w vs)
 
 -- a word and what it means
 pub record Entry (X : Type 0) : Type 0 where

@@ -5,7 +5,7 @@
 ghost use Rattle.std.specs.Prelude.{◌≡◌, ◌≤◌, drop, length};
 ghost use Rattle.laws.specs.Text.{same};
 ghost use Rattle.words.specs.Cutting.{start_of, end_of, word_at, cut, head_word, tail_words, past_of};
-ghost use Rattle.words.specs.Find.{index};
+ghost use Rattle.words.specs.Find.{found};
 
 // Where a word stands: from start to before end. Where there is none, both are the end of the text.
 #[derive(Clone, Copy)]
@@ -76,24 +76,22 @@ pub fn same_bytes(a: &[u8], b: &[u8]) -> bool
     a == b
 }
 
-// The place of w among the words of names, from 0, or how many these are where it is none of them.
-pub fn find_word(w: &[u8], names: &[u8]) -> usize
-    ensures { result ≡ index w.now (cut names.now) }
+// The place of w among the words of names, from 0, or none where it is none of them.
+pub fn find_word(w: &[u8], names: &[u8]) -> Option<usize>
+    ensures { result ≡ found w.now (cut names.now) }
 {
-    let mut k: usize = 0;
-    let mut at: usize = 0;
-    while at < names.len() {
+    let mut at = 0;
+    for k in 0..names.len() {
         let Word { start, end } = word_at(names, at);
         if start == end {
-            return k;
+            return None;
         }
-        if same_bytes(w, &names[start..end]) {
-            return k;
+        if w == &names[start..end] {
+            return Some(k);
         }
         at = end;
-        k += 1;
     }
-    k
+    None
 }
 
 // The word of s at a place from 0, or nothing where there are not so many.

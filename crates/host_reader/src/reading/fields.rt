@@ -1,10 +1,10 @@
 // The fields of a message's line: bytes and texts at a place, the front of every message, and the state in it.
 // The rules are in specs/Reading.antt.
-ghost use Rattle.std.specs.Prelude.{◌≡◌, take, drop, get_or};
+ghost use Rattle.std.specs.Prelude.{◌≡◌, ◌==◌, take, drop, get_or, option_map};
 ghost use Rattle.numbers.specs.Reading.{value_of};
 ghost use Rattle.words.specs.Cutting.{cut};
-ghost use Rattle.words.specs.Find.{index};
-ghost use Rattle.host_reader.specs.Reading.{stands, two_of, second, kind_of, front_in, state_in};
+ghost use Rattle.words.specs.Find.{found};
+ghost use Rattle.host_reader.specs.Reading.{stands, two_of, kind_of, front_in, state_in};
 
 use crate::{Front, Kind, State};
 use words::{find_word, same_bytes};
@@ -70,10 +70,9 @@ fn kind_of(mark: u8) -> Option<Kind>
 
 // Which of two words is w: is it the second?
 pub(crate) fn second_of(w: &[u8], two: &[u8]) -> Option<bool>
-    ensures { result ≡ second (index w.now (cut two.now)) }
+    ensures { result ≡ option_map (λ k. k == 1) (found w.now (cut two.now)) }
 {
-    let place = find_word(w, two);
-    (place < 2).then_some(place == 1)
+    find_word(w, two).map(|place| place == 1)
 }
 
 // Mark, address and axis: the front of a message of any kind.
@@ -96,7 +95,6 @@ pub(crate) fn read_state(s: &[u8]) -> Option<State>
     ensures { result ≡ state_in s.now }
 {
     let busy = second_of(field(s, 0, 4), b"IDLE BUSY")?;
-    let parted = stands_at(s, 4, b" ");
-    let warning = find_word(field(s, 5, 2), b"-- FD FQ FS FT FB FP FE WR");
-    (parted & (warning < 9)).then_some(State { busy, warning })
+    let warning = find_word(field(s, 5, 2), b"-- FD FQ FS FT FB FP FE WR")?;
+    stands_at(s, 4, b" ").then_some(State { busy, warning })
 }

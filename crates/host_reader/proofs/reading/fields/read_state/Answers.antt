@@ -15,3 +15,7 @@ returns-in_err-busy c = search rules
 pub returns : goal.returns
 unfolding statuses warnings warning_names text cut is_space no_space grow_at words_from index
 returns c = search rules
+
+pub returns-in_err-warning : goal.returns-in_err-warning
+unfolding statuses warnings warning_names text cut is_space no_space grow_at words_from index
+returns-in_err-warning c = search rules
