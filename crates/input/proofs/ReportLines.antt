@@ -8,6 +8,8 @@ use native.Mathlib.Omega.{arith}
 use lib.Dec.{eqb, ltb, eqb-zero-suc, eqb-suc-suc}
 use lib.ListN.{length, take, drop}
 use borrow.Author.Tests.{ne_eqb, lt-ltb, le-ltb}
+use Rattle.std.specs.Prelude.{Option, None, Some}
+use Rattle.units.specs.declared.Number.{Number}
 use Rattle.laws.specs.Lists.{all, fold, span}
 use Rattle.laws.specs.Refusals.{first_of, ACCEPTED, BADREPORT}
 use Rattle.laws.specs.Text.{text, same}
@@ -21,10 +23,9 @@ use Rattle.words.specs.Cutting.{cut, word_at, head_word, tail_words}
 use Rattle.words.proofs.Cut.{cut_none, word_head, word_tail}
 use Rattle.line.specs.Spelling.{longest_line}
 use Rattle.line.specs.Reading.{printable, is_footer}
-use Rattle.input.specs.declared.reports.ReportRead.{ReportRead}
-use Rattle.input.specs.declared.reports.ReportRead.TheVariants.{Report, Misspelt}
-use Rattle.input.specs.declared.reports.PlacedRead.{PlacedRead}
-use Rattle.input.specs.ReportLines.{framed_words, behind_r, numbers_of, three_of, read_report, at_place, placed_of, read_placed}
+use Rattle.input.specs.declared.reports.MotorReport.{MotorReport}
+use Rattle.input.specs.declared.reports.PlacedReport.{PlacedReport}
+use Rattle.input.specs.ReportLines.{framed_words, behind_r, number_in, number_said, numbers_of, three_of, read_report, at_place, placed_of, read_placed}
 use Rattle.input.specs.ReportLines.{number_of, placed_number, is_number, spelled_so, refusal_for, line_refusal, placed_refusal}
 
 -- ---- the frame
@@ -61,44 +62,44 @@ module _ (b : List ℕ) {v : Word} {ws : List (List ℕ)} (e : cut b ≡ ws) (q 
 
 -- ---- three numbers
 -- a word that is missing is no number
-no_last : (x y : NumberRead) → numbers_of x y (read_number []) ≡ Misspelt
+no_last : (x y : Option Number) → numbers_of x y (number_said []) ≡ None
 unfolding read_number
-no_last (Refused p) y = refl
-no_last (Value a) (Refused p) = refl
-no_last (Value a) (Value k) = refl
+no_last None y = refl
+no_last (Some a) None = refl
+no_last (Some a) (Some k) = refl
 
 -- the words ws, and those behind the first, the second and the third of them
 module _ (ws t₁ t₂ t₃ : List (List ℕ)) (e₁ : t₁ ≡ tail_words ws) (e₂ : t₂ ≡ tail_words t₁) (e₃ : t₃ ≡ tail_words t₂) where
   third : t₃ ≡ tail_words (tail_words (tail_words ws))
   third = e₃ ∙ ap tail_words (e₂ ∙ ap tail_words e₁)
 
-  pub too_many : {v : List ℕ} {vs : List (List ℕ)} → t₃ ≡ v ∷ vs → Misspelt ≡ three_of ws
+  pub too_many : {v : List ℕ} {vs : List (List ℕ)} → t₃ ≡ v ∷ vs → None ≡ three_of ws
   unfolding tail_words
   too_many {v} {vs} h = go ws (sym third ∙ h)
     where
-      go : (ws : List (List ℕ)) → tail_words (tail_words (tail_words ws)) ≡ v ∷ vs → Misspelt ≡ three_of ws
+      go : (ws : List (List ℕ)) → tail_words (tail_words (tail_words ws)) ≡ v ∷ vs → None ≡ three_of ws
       go [] h = refl
       go (a ∷ []) h = refl
       go (a ∷ k ∷ []) h = refl
       go (a ∷ k ∷ n ∷ []) h = absurd (omega (arith, ap length h))
       go (a ∷ k ∷ n ∷ x ∷ ws) h = refl
 
-  pub just_three : {x y z : NumberRead} {r : ReportRead} → t₃ ≡ [] → x ≡ read_number (head_word ws) → y ≡ read_number (head_word t₁)
-      → z ≡ read_number (head_word t₂) → r ≡ numbers_of x y z → r ≡ three_of ws
+  pub just_three : {x y z : Option Number} {r : Option MotorReport} → t₃ ≡ [] → x ≡ number_said (head_word ws) → y ≡ number_said (head_word t₁)
+      → z ≡ number_said (head_word t₂) → r ≡ numbers_of x y z → r ≡ three_of ws
   unfolding tail_words head_word
   just_three none x y z r = r ∙ rw (x, y, z, e₂, e₁) (go ws (sym third ∙ none))
     where
       go : (ws : List (List ℕ)) → tail_words (tail_words (tail_words ws)) ≡ []
-          → numbers_of (read_number (head_word ws)) (read_number (head_word (tail_words ws))) (read_number (head_word (tail_words (tail_words ws))))
+          → numbers_of (number_said (head_word ws)) (number_said (head_word (tail_words ws))) (number_said (head_word (tail_words (tail_words ws))))
           ≡ three_of ws
-      go [] h = no_last (read_number []) (read_number [])
-      go (a ∷ []) h = no_last (read_number a) (read_number [])
-      go (a ∷ k ∷ []) h = no_last (read_number a) (read_number k)
+      go [] h = no_last (number_said []) (number_said [])
+      go (a ∷ []) h = no_last (number_said a) (number_said [])
+      go (a ∷ k ∷ []) h = no_last (number_said a) (number_said k)
       go (a ∷ k ∷ n ∷ []) h = refl
       go (a ∷ k ∷ n ∷ x ∷ ws) h = absurd (omega (arith, ap length h))
 
 -- one number before three
-place_and_three : (ws : List (List ℕ)) → at_place (read_number (head_word ws)) (three_of (tail_words ws)) ≡ placed_of ws
+place_and_three : (ws : List (List ℕ)) → at_place (number_said (head_word ws)) (three_of (tail_words ws)) ≡ placed_of ws
 unfolding head_word tail_words read_number
 place_and_three [] = refl
 place_and_three (d ∷ ws) = refl
@@ -111,7 +112,8 @@ number_if right = cond (not right) BADREPORT ACCEPTED
 abbrev so_many : ℕ → List (List ℕ) → Bool
 so_many many ws = eqb (length ws) many && all (λ w. is_number (read_number w)) ws
 
-three_numbers : (x y z : NumberRead) → number_of (numbers_of x y z) ≡ number_if (is_number x && (is_number y && (is_number z && true)))
+three_numbers : (x y z : NumberRead)
+    → number_of (numbers_of (number_in x) (number_in y) (number_in z)) ≡ number_if (is_number x && (is_number y && (is_number z && true)))
 three_numbers (Refused p) y z = refl
 three_numbers (Value a) (Refused p) z = refl
 three_numbers (Value a) (Value k) (Refused p) = refl
@@ -125,11 +127,11 @@ just_3 (a ∷ k ∷ []) = refl
 just_3 (a ∷ k ∷ n ∷ []) = three_numbers (read_number a) (read_number k) (read_number n)
 just_3 (a ∷ k ∷ n ∷ x ∷ ws) = rw (ne_eqb (length (a ∷ k ∷ n ∷ x ∷ ws)) 3 (λ e. omega arith))
 
-one_more : (x : NumberRead) (r : ReportRead) (l o : Bool) → number_of r ≡ number_if (l && o)
-    → placed_number (at_place x r) ≡ number_if (l && (is_number x && o))
+one_more : (x : NumberRead) (r : Option MotorReport) (l o : Bool) → number_of r ≡ number_if (l && o)
+    → placed_number (at_place (number_in x) r) ≡ number_if (l && (is_number x && o))
 one_more (Refused p) r l o e = ap number_if (sym (and_false l))
-one_more (Value d) Misspelt l o e = e
-one_more (Value d) (Report a k n) l o e = e
+one_more (Value d) None l o e = e
+one_more (Value d) (Some r) l o e = e
 
 just_4 : (ws : List (List ℕ)) → placed_number (placed_of ws) ≡ number_if (so_many 4 ws)
 unfolding fold
@@ -163,13 +165,13 @@ module _ {X : Type 0} (read : List (List ℕ) → X) (number : X → ℕ) (many 
 
 -- ---- what `read_report` and `read_placed` promise of their answers: ws are the words behind `R`
 module _ (s : List ℕ) {ws : List (List ℕ)} (e : ws ≡ behind_r (framed_words s)) where
-  pub report_told : {r : ReportRead} → r ≡ three_of ws → (r ≡ read_report s) × (number_of r ≡ line_refusal s)
+  pub report_told : {r : Option MotorReport} → r ≡ three_of ws → (r ≡ read_report s) × (number_of r ≡ line_refusal s)
   unfolding read_report line_refusal
   report_told r =
       let read = r ∙ ap three_of e in
       (read, ap number_of read ∙ line_number three_of number_of 3 refl just_3 s)
 
-  pub placed_told : {t : List (List ℕ)} {x : NumberRead} {y : ReportRead} {r : PlacedRead} → x ≡ read_number (head_word ws)
+  pub placed_told : {t : List (List ℕ)} {x : Option Number} {y : Option MotorReport} {r : Option PlacedReport} → x ≡ number_said (head_word ws)
       → t ≡ tail_words ws → y ≡ three_of t → r ≡ at_place x y → (r ≡ read_placed s) × (placed_number r ≡ placed_refusal s)
   unfolding read_placed placed_refusal
   placed_told x t y r =

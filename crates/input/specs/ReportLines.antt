@@ -1,19 +1,18 @@
 -- How the line of a motor report is read: "`R axis kind p` ... with spaces and numbers as above"; for a chain `R device axis kind p`.
 -- "22 if misspelt, over 80 bytes or without a footer"
-use Rattle.std.specs.Prelude.{Bool, true, false, cond, not, ◌&&◌, List, [], ◌∷◌, ℕ, eqb, ltb, length, take, drop}
+use Rattle.std.specs.Prelude.{Option, None, Some, Bool, true, false, cond, not, ◌&&◌, List, [], ◌∷◌, ℕ, eqb, ltb, length, take, drop}
 use Rattle.laws.specs.Lists.{all, span}
 use Rattle.laws.specs.Refusals.{◌when◌, first_of, ACCEPTED, BADREPORT}
 use Rattle.laws.specs.Text.{text, same}
+use Rattle.units.specs.declared.Number.{Number}
 use Rattle.numbers.specs.declared.NumberRead.{NumberRead}
 use Rattle.numbers.specs.declared.NumberRead.TheVariants.{Value, Refused}
 use Rattle.numbers.specs.Reading.{read_number}
 use Rattle.words.specs.Cutting.{cut, head_word, tail_words}
 use Rattle.line.specs.Reading.{printable, is_footer}
 use Rattle.line.specs.Spelling.{longest_line}
-use Rattle.input.specs.declared.reports.ReportRead.{ReportRead}
-use Rattle.input.specs.declared.reports.ReportRead.TheVariants.{Report, Misspelt}
-use Rattle.input.specs.declared.reports.PlacedRead.{PlacedRead}
-use Rattle.input.specs.declared.reports.PlacedRead.TheVariants as Placed
+use Rattle.input.specs.declared.reports.MotorReport.{MotorReport}
+use Rattle.input.specs.declared.reports.PlacedReport.{PlacedReport}
 
 -- the words before the footer; none where the line is "over 80 bytes or without a footer"
 abbrev pub framed_words : List ℕ → List (List ℕ)
@@ -26,46 +25,54 @@ abbrev pub behind_r : List (List ℕ) → List (List ℕ)
 behind_r [] = []
 behind_r (r ∷ ws) = cond (same r (text "R")) ws []
 
+-- what was read of a word, and what a word says, if that is a number
+abbrev pub number_in : NumberRead → Option Number
+number_in (Value n) = Some n
+number_in (Refused p) = None
+
+abbrev pub number_said : List ℕ → Option Number
+number_said w = number_in (read_number w)
+
 -- three numbers: axis, kind, and the last one
-abbrev pub numbers_of : NumberRead → NumberRead → NumberRead → ReportRead
-numbers_of (Value axis) (Value kind) (Value last) = Report axis kind last
-numbers_of (Refused p) k n = Misspelt
-numbers_of (Value axis) (Refused p) n = Misspelt
-numbers_of (Value axis) (Value kind) (Refused p) = Misspelt
+abbrev pub numbers_of : Option Number → Option Number → Option Number → Option MotorReport
+numbers_of (Some axis) (Some kind) (Some last) = Some (record { axis = axis; kind = kind; last = last })
+numbers_of None k n = None
+numbers_of (Some axis) None n = None
+numbers_of (Some axis) (Some kind) None = None
 
 -- "`axis kind p`": just three words
-abbrev pub three_of : List (List ℕ) → ReportRead
-three_of [] = Misspelt
-three_of (a ∷ []) = Misspelt
-three_of (a ∷ k ∷ []) = Misspelt
-three_of (a ∷ k ∷ n ∷ []) = numbers_of (read_number a) (read_number k) (read_number n)
-three_of (a ∷ k ∷ n ∷ x ∷ ws) = Misspelt
+abbrev pub three_of : List (List ℕ) → Option MotorReport
+three_of [] = None
+three_of (a ∷ []) = None
+three_of (a ∷ k ∷ []) = None
+three_of (a ∷ k ∷ n ∷ []) = numbers_of (number_said a) (number_said k) (number_said n)
+three_of (a ∷ k ∷ n ∷ x ∷ ws) = None
 
-unfoldable pub read_report : List ℕ → ReportRead
+unfoldable pub read_report : List ℕ → Option MotorReport
 read_report s = three_of (behind_r (framed_words s))
 
 -- a place of the chain, and what is reported of the device there
-abbrev pub at_place : NumberRead → ReportRead → PlacedRead
-at_place (Value device) (Report axis kind last) = Placed.Report device axis kind last
-at_place (Value device) Misspelt = Placed.Misspelt
-at_place (Refused p) r = Placed.Misspelt
+abbrev pub at_place : Option Number → Option MotorReport → Option PlacedReport
+at_place (Some device) (Some report) = Some (record { place = device; report = report })
+at_place (Some device) None = None
+at_place None r = None
 
 -- `device axis kind p`: one word, and such three
-abbrev pub placed_of : List (List ℕ) → PlacedRead
-placed_of [] = Placed.Misspelt
-placed_of (d ∷ ws) = at_place (read_number d) (three_of ws)
+abbrev pub placed_of : List (List ℕ) → Option PlacedReport
+placed_of [] = None
+placed_of (d ∷ ws) = at_place (number_said d) (three_of ws)
 
-unfoldable pub read_placed : List ℕ → PlacedRead
+unfoldable pub read_placed : List ℕ → Option PlacedReport
 read_placed s = placed_of (behind_r (framed_words s))
 
 -- document 01's number for each case of the answer
-abbrev pub number_of : ReportRead → ℕ
-number_of (Report axis kind last) = ACCEPTED
-number_of Misspelt = BADREPORT
+abbrev pub number_of : Option MotorReport → ℕ
+number_of (Some r) = ACCEPTED
+number_of None = BADREPORT
 
-abbrev pub placed_number : PlacedRead → ℕ
-placed_number (Placed.Report device axis kind last) = ACCEPTED
-placed_number Placed.Misspelt = BADREPORT
+abbrev pub placed_number : Option PlacedReport → ℕ
+placed_number (Some r) = ACCEPTED
+placed_number None = BADREPORT
 
 -- the words of a report, said apart from their reading: so many, `R` and then numbers
 abbrev pub is_number : NumberRead → Bool

@@ -1,9 +1,8 @@
 // Reads the line of a motor report, with spaces and numbers as in a command line: `R axis kind p`, or `R device axis kind p` for a chain.
 // specs/ReportLines.antt says which lines are misspelt.
 ghost use Rattle.std.specs.Prelude.{◌≡◌, drop};
-ghost use Rattle.numbers.specs.Reading.{read_number};
 ghost use Rattle.words.specs.Cutting.{cut, head_word, tail_words};
-ghost use Rattle.input.specs.ReportLines.{framed_words, behind_r, numbers_of, three_of, read_report, at_place, read_placed};
+ghost use Rattle.input.specs.ReportLines.{framed_words, behind_r, number_in, number_said, numbers_of, three_of, read_report, at_place, read_placed};
 ghost use Rattle.input.specs.ReportLines.{number_of, placed_number, line_refusal, placed_refusal};
 
 use line::LONGEST_LINE;
@@ -11,18 +10,19 @@ use numbers::NumberRead;
 use units::Number;
 use words::Word;
 
-// What a line is as a motor report: its three numbers, or no report.
+// What a motor report says: the axis, the kind of the report, and its last number.
 #[derive(Clone, Copy)]
-pub enum ReportRead {
-    Report(Number, Number, Number),
-    Misspelt,
+pub struct MotorReport {
+    pub axis: Number,
+    pub kind: Number,
+    pub last: Number,
 }
 
-// What a line is as a motor report for a place of a chain: the place and the report's three numbers, or no report.
+// A motor report for the device at a place of a chain.
 #[derive(Clone, Copy)]
-pub enum PlacedRead {
-    Report(Number, Number, Number, Number),
-    Misspelt,
+pub struct PlacedReport {
+    pub place: Number,
+    pub report: MotorReport,
 }
 
 // What stands before a line's footer; nothing where the line is over 80 bytes or has no footer.
@@ -51,59 +51,61 @@ fn behind_r(s: &[u8]) -> &[u8]
     &b[..0]
 }
 
-// A word as a number, and the place behind it.
+// A word as a number, if it is one, and the place behind it.
 #[derive(Clone, Copy)]
 struct NumberAt {
-    number: NumberRead,
+    number: Option<Number>,
     end: usize,
+}
+
+// What was read of a word, if that is a number.
+fn number_in(read: NumberRead) -> Option<Number>
+    ensures { result ≡ number_in read }
+{
+    match read {
+        NumberRead::Value(n) => Some(n),
+        NumberRead::Refused(_) => None,
+    }
 }
 
 // The first word from at on as a number: the words from behind it on are the others.
 fn number_at(s: &[u8], at: usize) -> NumberAt
-    ensures number { result.number ≡ read_number (head_word (cut (drop at s.now))) }
+    ensures number { result.number ≡ number_said (head_word (cut (drop at s.now))) }
     ensures others { cut (drop result.end s.now) ≡ tail_words (cut (drop at s.now)) }
 {
     let Word { start, end } = words::word_at(s, at);
     NumberAt {
-        number: numbers::reading::read_number(&s[start..end]),
+        number: number_in(numbers::reading::read_number(&s[start..end])),
         end,
     }
 }
 
 // Three words as numbers: axis, kind, and the last one.
-fn numbers(axis: NumberRead, kind: NumberRead, last: NumberRead) -> ReportRead
+fn numbers(axis: Option<Number>, kind: Option<Number>, last: Option<Number>) -> Option<MotorReport>
     ensures { result ≡ numbers_of axis kind last }
 {
-    match axis {
-        NumberRead::Refused(_) => ReportRead::Misspelt,
-        NumberRead::Value(a) => match kind {
-            NumberRead::Refused(_) => ReportRead::Misspelt,
-            NumberRead::Value(k) => match last {
-                NumberRead::Refused(_) => ReportRead::Misspelt,
-                NumberRead::Value(n) => ReportRead::Report(a, k, n),
-            },
-        },
-    }
+    Some(MotorReport {
+        axis: axis?,
+        kind: kind?,
+        last: last?,
+    })
 }
 
 // The words from at on: just three, as numbers.
-fn three_at(s: &[u8], at: usize) -> ReportRead
+fn three_at(s: &[u8], at: usize) -> Option<MotorReport>
     ensures { result ≡ three_of (cut (drop at s.now)) }
 {
     let axis = number_at(s, at);
     let kind = number_at(s, axis.end);
     let last = number_at(s, kind.end);
     if words::start_of(s, last.end) < s.len() {
-        return ReportRead::Misspelt;
+        return None;
     }
-    let a = axis.number;
-    let k = kind.number;
-    let n = last.number;
-    numbers(a, k, n)
+    numbers(axis.number, kind.number, last.number)
 }
 
-// The line of a motor report.
-pub fn read_report(s: &[u8]) -> ReportRead
+// The line of a motor report; nothing where it is misspelt.
+pub fn read_report(s: &[u8]) -> Option<MotorReport>
     ensures read { result ≡ read_report s.now }
     ensures number { number_of result ≡ line_refusal s.now }
 {
@@ -111,20 +113,17 @@ pub fn read_report(s: &[u8]) -> ReportRead
 }
 
 // A word as a place of the chain, and what is reported of the device there.
-fn at_place(device: NumberRead, report: ReportRead) -> PlacedRead
+fn at_place(device: Option<Number>, report: Option<MotorReport>) -> Option<PlacedReport>
     ensures { result ≡ at_place device report }
 {
-    match device {
-        NumberRead::Refused(_) => PlacedRead::Misspelt,
-        NumberRead::Value(d) => match report {
-            ReportRead::Misspelt => PlacedRead::Misspelt,
-            ReportRead::Report(a, k, n) => PlacedRead::Report(d, a, k, n),
-        },
-    }
+    Some(PlacedReport {
+        place: device?,
+        report: report?,
+    })
 }
 
-// The line of a motor report for a place of a chain.
-pub fn read_placed(s: &[u8]) -> PlacedRead
+// The line of a motor report for a place of a chain; nothing where it is misspelt.
+pub fn read_placed(s: &[u8]) -> Option<PlacedReport>
     ensures read { result ≡ read_placed s.now }
     ensures number { placed_number result ≡ placed_refusal s.now }
 {
