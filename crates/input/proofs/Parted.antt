@@ -5,23 +5,15 @@ use mathlib.Core.Bool.{Bool, true, false, cond}
 use mathlib.Core.List.{List, [], ◌∷◌}
 use Prim.Native.Nat.{ℕ, suc, ◌+◌, ◌-◌, ◌≤◌, ◌<◌}
 use native.Mathlib.Omega.{arith}
-use native.Mathlib.Numerals.{add-one}
-use lib.Dec.{eqb}
-use lib.ListN.{length, get_or, take, drop, drop_of_length-le, length-drop}
-use lib.Seq.{drop-cons, drop-drop}
-use borrow.Author.Tests.{eq-eqb, ne_eqb}
+use lib.Dec.{eqb, leb-suc-suc}
+use lib.ListN.{length, take, drop, length-drop}
+use lib.Seq.{drop-drop}
+use borrow.Author.Tests.{le-leb}
+use Rattle.std.proofs.Common.{Option, None, Some, nat_eq, nat_lt, not, position, max}
+use Rattle.std.specs.List.{position_or_len}
 use Rattle.laws.specs.Text.{LF}
 use Rattle.words.specs.Cutting.{grow}
 use Rattle.input.specs.Parts.{parts, first_part}
-
--- a part ends with its LF
-part_lf : (c : ℕ) (s : List ℕ) → c ≡ 10 → first_part (c ∷ s) ≡ 1
-unfolding first_part
-part_lf c s h = rw (eq-eqb c 10 h)
-
-part_other : (c : ℕ) (s : List ℕ) → (c ≡ 10 → ⊥) → first_part (c ∷ s) ≡ suc (first_part s)
-unfolding first_part
-part_other c s h = rw (ne_eqb c 10 h)
 
 pub part_le : (s : List ℕ) → first_part s ≤ length s
 unfolding first_part
@@ -52,17 +44,41 @@ parts_more (c ∷ []) h = go (eqb c LF)
     go false = (omega arith, refl)
 parts_more (c ∷ x ∷ s) h = grown c (x ∷ s) (eqb c LF) (parts_more (x ∷ s) (omega arith)).1
 
--- ---- the loop that looks for a part's end
-module _ (s : List ℕ) (i : ℕ) where
-  pub part_stop : i < length s → get_or s i 0 ≡ 10 → i + 1 ≡ i + first_part (drop i s)
-  part_stop h e = rw (drop-cons s i 0 h, part_lf (get_or s i 0) (drop (suc i) s) e)
+-- ---- the first part, by where its LF is found
+abbrev lf : ℕ → Bool
+lf c = nat_eq c 10
 
-  pub part_on : i < length s → (get_or s i 0 ≡ 10 → ⊥) → i + 1 + first_part (drop (i + 1) s) ≡ i + first_part (drop i s)
-  part_on h e = rw (drop-cons s i 0 h, part_other (get_or s i 0) (drop (suc i) s) e, add-one) (omega arith)
+abbrev part_of : Option ℕ → ℕ → ℕ
+part_of (Some i) n = i + 1
+part_of None n = n
 
-  pub part_end : length s ≤ i → i ≡ i + first_part (drop i s)
-  unfolding first_part
-  part_end h = rw (drop_of_length-le s h) (omega arith)
+found : (s : List ℕ) → part_of (position lf s) (length s) ≡ first_part s
+unfolding first_part
+found [] = refl
+found (c ∷ s) = go (eqb c 10) (found s)
+  where
+    more : (k n : ℕ) (t : Bool) → part_of (cond t (Some k) None) n ≡ first_part s
+        → part_of (cond t (Some (suc k)) None) (suc n) ≡ suc (first_part s)
+    more k n true ih = omega (arith, ih)
+    more k n false ih = omega (arith, ih)
+
+    go : (t : Bool) → part_of (position lf s) (length s) ≡ first_part s
+        → part_of (cond (nat_lt (cond (not t) (1 + position_or_len lf s) 0) (suc (length s))) (Some (cond (not t) (1 + position_or_len lf s) 0)) None) (suc (length s))
+        ≡ cond t 1 (suc (first_part s))
+    go true ih = rw (le-leb 1 (suc (length s)) (omega arith)) refl
+    go false ih =
+        let k = position_or_len lf s in
+        let one : 1 + k ≡ suc k = omega arith in
+        simp (one, leb-suc-suc) (more k (length s) (nat_lt k (length s)) ih)
+
+module _ (s : List ℕ) (at : ℕ) where
+  pub part_found : {i : ℕ} → Some i ≡ position lf (drop at s) → at + i + 1 ≡ at + first_part (drop at s)
+  part_found {i} e = omega (arith, ap (λ o. part_of o (length (drop at s))) e ∙ found (drop at s))
+
+  pub part_whole : None ≡ position lf (drop at s) → max at (length s) ≡ at + first_part (drop at s)
+  part_whole e =
+      let whole = ap (λ o. part_of o (length (drop at s))) e ∙ found (drop at s) in
+      omega (arith, whole, length-drop at s)
 
 -- ---- the part from a place inside
 module _ (s : List ℕ) (at : ℕ) {e : ℕ} (h : at < length s) (q : e ≡ at + first_part (drop at s)) where

@@ -2,42 +2,27 @@
 -- Assumes nothing.
 use mathlib.Core.Path.{◌≡◌, refl, sym, ap, ◌∙◌}
 use mathlib.Core.Logic.{◌⊎◌, ⊎_elim}
-use mathlib.Core.Bool.{Bool, true, false, cond}
 use mathlib.Core.List.{List, [], ◌∷◌, ◌++◌}
 use Prim.Native.Nat.{ℕ, zero, suc, ◌+◌, ◌≤◌, ◌<◌, min}
 use native.Mathlib.Numerals.{add-one}
 use native.Mathlib.Omega.{arith}
 use lib.Dec.{eqb}
-use lib.ListN.{length, get_or, take, replicate, length-append, length-replicate}
+use lib.ListN.{length, take, replicate, length-append, length-replicate}
 use lib.Seq.{take_all}
 use borrow.Author.Tests.{eq-eqb, ne_eqb}
 use Rattle.laws.specs.Text.{text, same, space}
-use Rattle.laws.proofs.Order.{lt_or_le}
+use Rattle.std.specs.List.{starts_with}
+use Rattle.laws.proofs.Order.{lt_or_le, eq_or_ne}
 use Rattle.numbers.proofs.Decimal.{digits_length}
 use Rattle.buffer.specs.Wrote.{Wrote}
 use Rattle.buffer.proofs.Wrote.{◌▸◌, wrote_none}
 use Rattle.input.specs.Prints.{is_report, told, reported, answered, caret}
 
-module _ (p : List ℕ) where
-  pub report_none : length p ≡ 0 → false ≡ is_report p
-  unfolding is_report same text
-  report_none h = go p h
-    where
-      go : (p : List ℕ) → length p ≡ 0 → false ≡ same (take 1 p) (text "R")
-      go [] h = refl
-      go (c ∷ p) h = absurd (omega arith)
-
-  pub report_first : (length p ≡ 0 → ⊥) → eqb (get_or p 0 0) 82 ≡ is_report p
-  unfolding is_report same text
-  report_first h = go p h
-    where
-      both : (t : Bool) → t ≡ cond t true false
-      both true = refl
-      both false = refl
-
-      go : (p : List ℕ) → (length p ≡ 0 → ⊥) → eqb (get_or p 0 0) 82 ≡ same (take 1 p) (text "R")
-      go [] h = absurd (h refl)
-      go (c ∷ p) h = both (eqb c 82)
+pub starts_with_r : (p : List ℕ) → starts_with eqb p (82 ∷ []) ≡ is_report p
+unfolding is_report same text
+starts_with_r [] = refl
+starts_with_r (c ∷ p) =
+    ⊎_elim (λ (h : c ≡ 82). rw h refl) (λ (h : c ≡ 82 → ⊥). rw (ne_eqb c 82 h, ne_eqb 82 c (λ e. h (sym e))) refl) (eq_or_ne c 82)
 
 -- as many as there are
 pub first_bytes : {X : Type 0} (n m : ℕ) (s : List X) → n ≡ min m (length s) → take n s ≡ take m s

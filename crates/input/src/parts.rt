@@ -1,6 +1,6 @@
 // The parts of bench's input, and the texts that are printed for them. No record is known here.
 // specs/Parts.antt says how an input is parted, and specs/Prints.antt what is printed.
-ghost use Rattle.std.specs.Prelude.{◌≡◌, ◌+◌, drop};
+ghost use Rattle.std.specs.Prelude.{◌≡◌, ◌==◌, ◌+◌, drop, position};
 ghost use Rattle.buffer.specs.Wrote.{Wrote};
 ghost use Rattle.input.specs.Parts.{first_part};
 ghost use Rattle.input.specs.Prints.{is_report, told, reported, answered, caret};
@@ -9,28 +9,28 @@ use buffer::{put_byte, put_number, put_text};
 use laws::NOWHERE;
 use units::lesser;
 
+// Where the first LF from `at` on stands, counted from there.
+fn lf_from(s: &[u8], at: usize) -> Option<usize>
+    ensures { result ≡ position (λ c. c == 10) (drop at s.now) }
+{
+    s.iter().skip(at).position(|byte| *byte == b'\n')
+}
+
 // The place behind the first LF from `at` on, or the end.
 pub fn part_end(s: &[u8], at: usize) -> usize
     ensures { result ≡ at + first_part (drop at s.now) }
 {
-    let mut i = at;
-    while i < s.len() {
-        if s[i] == 10 {
-            return i + 1;
-        }
-        i += 1;
+    match lf_from(s, at) {
+        Some(i) => at + i + 1,
+        None => at.max(s.len()),
     }
-    i
 }
 
 // Is the first byte `R`?
 pub fn is_report(part: &[u8]) -> bool
     ensures { result ≡ is_report part.now }
 {
-    if part.len() == 0 {
-        return false;
-    }
-    part[0] == b'R'
+    part.starts_with(b"R")
 }
 
 // A name and a number, and LF.
@@ -69,10 +69,8 @@ pub fn put_caret(out: &mut [u8], at: usize, place: u8) -> usize
         return at;
     }
     let mut next = at;
-    let mut i: u8 = 0;
-    while i < place {
+    for _ in 0..place {
         next = put_byte(out, next, b' ');
-        i += 1;
     }
     put_text(out, next, b"^\n")
 }

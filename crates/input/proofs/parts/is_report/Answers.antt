@@ -1,9 +1,7 @@
--- `input::parts::is_report` meets its contract.
-use Rattle.input.proofs.Prints.{report_none, report_first}
+-- A report is a part that starts with `R`.
+use mathlib.Core.Path.{◌∙◌}
+use Rattle.input.proofs.Prints.{starts_with_r}
 use Rattle.input.proofs.parts.is_report.Goals as goal
 
-pub returns-then-part-eq0 : goal.returns-then-part-eq0
-returns-then-part-eq0 c = report_none _ c.if-part-eq0.true
-
 pub returns : goal.returns
-returns c = report_first _ c.if-part-eq0.false
+returns c = c.starts_with.ensures.value ∙ starts_with_r _
