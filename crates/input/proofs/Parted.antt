@@ -1,16 +1,16 @@
 -- The parts of an input, as a loop finds their ends one behind the other.
 -- Assumes nothing.
-use mathlib.Core.Path.{◌≡◌, refl, ap, ◌∙◌}
+use mathlib.Core.Path.{◌≡◌, refl, sym, ap, ◌∙◌}
 use mathlib.Core.Bool.{Bool, true, false, cond}
-use mathlib.Core.List.{List, [], ◌∷◌}
-use Prim.Native.Nat.{ℕ, suc, ◌+◌, ◌-◌, ◌≤◌, ◌<◌}
+use mathlib.Core.List.{List, [], ◌∷◌, ◌++◌}
+use Prim.Native.Nat.{ℕ, zero, suc, min, ◌+◌, ◌-◌, ◌≤◌, ◌<◌}
 use native.Mathlib.Omega.{arith}
 use lib.Dec.{eqb, leb-suc-suc}
 use lib.ListN.{length, take, drop, length-drop}
-use lib.Seq.{drop-drop}
+use lib.Seq.{take-append_seam, drop-append_seam, drop-drop}
 use borrow.Author.Tests.{le-leb}
 use Rattle.std.proofs.Common.{Option, None, Some, nat_eq, nat_lt, not, position, max}
-use Rattle.std.specs.List.{position_or_len}
+use Rattle.std.specs.List.{position_or_len, IsFirstMatchOrLen}
 use Rattle.laws.specs.Text.{LF}
 use Rattle.words.specs.Cutting.{grow}
 use Rattle.input.specs.Parts.{parts, first_part}
@@ -45,7 +45,7 @@ parts_more (c ∷ []) h = go (eqb c LF)
 parts_more (c ∷ x ∷ s) h = grown c (x ∷ s) (eqb c LF) (parts_more (x ∷ s) (omega arith)).1
 
 -- ---- the first part, by where its LF is found
-abbrev lf : ℕ → Bool
+abbrev pub lf : ℕ → Bool
 lf c = nat_eq c 10
 
 abbrev part_of : Option ℕ → ℕ → ℕ
@@ -96,3 +96,22 @@ module _ (s : List ℕ) (at : ℕ) {e : ℕ} (h : at < length s) (q : e ≡ at +
       let n : first_part (drop at s) ≡ e - at = omega arith in
       let m : at + (e - at) ≡ e = omega (arith, part_past) in
       (parts_more (drop at s) left).1 ∙ rw (n, drop-drop (e - at) at s, m)
+
+-- ---- the parts, as the library's `split_inclusive` gives them
+-- i is the place of the first LF, or the length
+part_size : (s : List ℕ) (i : ℕ) → IsFirstMatchOrLen lf s i → first_part s ≡ min (i + 1) (length s)
+unfolding first_part
+part_size [] i h = omega arith
+part_size (c ∷ s) zero h = rw (h.1 (omega arith) 0) (omega arith)
+part_size (c ∷ s) (suc i) h =
+    let rest : first_part s ≡ min (i + 1) (length s) =
+    part_size s i (λ k d l m. h.0 (suc k) d (omega arith) (omega arith), λ l d. h.1 (omega arith) d) in
+    rw (h.0 0 0 (omega arith) (omega arith)) (omega (arith, rest))
+
+pub split_part : (s p left : List ℕ) (i : ℕ) → 0 < length s → s ≡ p ++ left → length p ≡ min (i + 1) (length s) → IsFirstMatchOrLen lf s i
+    → parts s ≡ p ∷ parts left
+split_part s p left i some whole long first =
+    let size : first_part s ≡ length p = part_size s i first ∙ sym long in
+    let front : take (first_part s) s ≡ p = rw (size, whole) (take-append_seam p left) in
+    let back : drop (first_part s) s ≡ left = rw (size, whole) (drop-append_seam p left) in
+    (parts_more s some).1 ∙ rw (front, back) refl

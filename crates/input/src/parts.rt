@@ -9,6 +9,13 @@ use buffer::{put_byte, put_number, put_text};
 use laws::NOWHERE;
 use units::lesser;
 
+// The place behind what a turn printed, and what the turn made of a record, or of a chain.
+#[derive(Clone, Copy)]
+pub struct Turned<T> {
+    pub place: usize,
+    pub next: T,
+}
+
 // Where the first LF from `at` on stands, counted from there.
 fn lf_from(s: &[u8], at: usize) -> Option<usize>
     ensures { result ≡ position (λ c. c == 10) (drop at s.now) }

@@ -12,7 +12,7 @@ use borrow.Author.Tests.{lt-ltb}
 use Rattle.line.specs.declared.LineRead.TheVariants.{Silent}
 use Rattle.line.specs.Reading.{read_line}
 use Rattle.line.proofs.Frames.{too_long_lem}
-use Rattle.input.specs.declared.reports.ReportRead.TheVariants.{Misspelt}
+use Rattle.std.specs.Prelude.{None}
 use Rattle.input.specs.ReportLines.{read_report}
 use Rattle.input.specs.Prints.{is_report}
 use Rattle.device.specs.declared.Device.{Device}
@@ -30,7 +30,7 @@ long_step : (d : Device) (l m b : List ℕ) → 80 < length l → 80 < length m 
 unfolding step respond
 long_step d l m b h k = simp (long_line l h, long_line m k)
 
-long_report : (p : List ℕ) → 80 < length p → read_report p ≡ Misspelt
+long_report : (p : List ℕ) → 80 < length p → read_report p ≡ None
 unfolding read_report
 long_report p h = simp (lt-ltb 80 (length p) h)
 

@@ -31,8 +31,8 @@ use Rattle.carriage.proofs.Demands.{every_answer}
 use Rattle.carriage.proofs.AnswerRoom.{command_room_lem, least_room, most_room}
 use Rattle.carriage.proofs.Room.{answer_within, silence_small, report_small, report_within}
 use Rattle.carriage.proofs.SilentNumbers.{reply_some}
-use Rattle.input.specs.declared.reports.ReportRead.{ReportRead}
-use Rattle.input.specs.declared.reports.ReportRead.TheVariants.{Report, Misspelt}
+use Rattle.std.specs.Prelude.{Option, None, Some}
+use Rattle.input.specs.declared.reports.MotorReport.{MotorReport}
 use Rattle.input.specs.ReportLines.{read_report}
 use Rattle.input.specs.Parts.{parts}
 use Rattle.input.specs.Prints.{is_report, told, reported, answered}
@@ -41,14 +41,14 @@ use Rattle.session.proofs.HelpLines.{help_long}
 use Rattle.session.specs.Bench.{report_turn, line_turn, turn, shown, turns, bench_device, bench}
 
 -- ---- a report: its number, and its alert
-report_short : (d : Device) (r : ReportRead) → length (report_turn d r).prints ≤ 28
+report_short : (d : Device) (r : Option MotorReport) → length (report_turn d r).prints ≤ 28
 unfolding report_turn reported text silent
-report_short d Misspelt = rw length-append (omega (arith, told_short (text "report ") 22 (omega arith) (omega arith)))
-report_short d (Report axis kind last) =
-    let s = report d axis kind last (replicate 96 0) in
-    let small = report_small d axis kind last (replicate 96 0) in
+report_short d None = rw length-append (omega (arith, told_short (text "report ") 22 (omega arith) (omega arith)))
+report_short d (Some r) =
+    let s = report d r.axis r.kind r.last (replicate 96 0) in
+    let small = report_small d r.axis r.kind r.last (replicate 96 0) in
     let name = told_short (text "report ") s.answer.number (omega arith) (omega (arith, small)) in
-    rw (length-append, length-take) (omega (arith, name, report_within d axis kind last (replicate 96 0)))
+    rw (length-append, length-take) (omega (arith, name, report_within d r.axis r.kind r.last (replicate 96 0)))
 
 -- ---- a line
 silent_small : (d : Device) (l b : List ℕ) → (step d l b).answer.length ≡ 0 → (step d l b).answer.number < 100

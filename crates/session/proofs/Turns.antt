@@ -2,10 +2,10 @@
 -- Assumes nothing.
 use mathlib.Core.Path.{◌≡◌, refl, sym, ◌∙◌}
 use mathlib.Core.Bool.{Bool, true, false}
-use mathlib.Core.List.{List, [], ◌++◌, append-nil, append_assoc}
-use Prim.Native.Nat.{ℕ, ◌+◌, ◌-◌, ◌≤◌, ◌<◌, min}
+use mathlib.Core.List.{List, [], ◌∷◌, ◌++◌, append-nil, append_assoc}
+use Prim.Native.Nat.{ℕ, min}
 use native.Mathlib.Omega.{arith}
-use lib.ListN.{length, take, drop, replicate, drop_of_length-le}
+use lib.ListN.{length, take, replicate}
 use Rattle.laws.proofs.Answers.{one_answer}
 use Rattle.buffer.specs.Wrote.{Wrote}
 use Rattle.buffer.proofs.Wrote.{◌▸◌, wrote_none, wrote_one}
@@ -13,12 +13,12 @@ use Rattle.device.specs.declared.Device.{Device}
 use Rattle.reply.specs.Help.{longest_answer}
 use Rattle.carriage.specs.declared.Answer.{Answer}
 use Rattle.carriage.specs.Step.{Gives, step, refused_at}
-use Rattle.input.specs.declared.reports.ReportRead.{ReportRead}
+use Rattle.std.specs.Prelude.{Option}
+use Rattle.input.specs.declared.parts.Turned.{Turned}
+use Rattle.input.specs.declared.reports.MotorReport.{MotorReport}
 use Rattle.input.specs.ReportLines.{read_report}
-use Rattle.session.specs.declared.Turned.{Turned}
-use Rattle.input.specs.Parts.{parts, first_part}
+use Rattle.input.specs.Parts.{parts}
 use Rattle.input.specs.Prints.{is_report, reported, answered, caret}
-use Rattle.input.proofs.Parted.{part_inside, part_first}
 use Rattle.input.proofs.Prints.{first_bytes}
 use Rattle.session.specs.Bench.{Turn, Took, report_answer, line_turn, report_turn, turn, shown, turns, bench_device, bench}
 
@@ -30,21 +30,21 @@ module _ (d : Device) (p : List ℕ) {b o : List ℕ} {at r : ℕ} where
   unfolding line_turn
   took_line g w = rw (← g.result, ← g.left) (record { prints = w; next = refl })
 
-  pub took_report : {q : ReportRead} {a : Answer} {c : List ℕ} → q ≡ read_report p → Gives (report_answer d q (replicate 96 0)) a c
+  pub took_report : {q : Option MotorReport} {a : Answer} {c : List ℕ} → q ≡ read_report p → Gives (report_answer d q (replicate 96 0)) a c
       → Wrote b at (reported a.number a.length c) o r
       → Took (report_turn d (read_report p)) b at (record { place = r; next = a.next }) o
   unfolding report_turn
   took_report q g w = rw (← q, ← g.result, ← g.left) (record { prints = w; next = refl })
 
 -- the promise of a turn leaves no choice
-pub took_one : {t : Turn} {b : List ℕ} {at : ℕ} {r q : Turned} {c o : List ℕ} → Took t b at r c → Took t b at q o → (r ≡ q) × (c ≡ o)
+pub took_one : {t : Turn} {b : List ℕ} {at : ℕ} {r q : Turned Device} {c o : List ℕ} → Took t b at r c → Took t b at q o → (r ≡ q) × (c ≡ o)
 took_one x y =
     let printed = wrote_one x.prints y.prints in
     let next = one_answer x.next y.next in
     ((λ i. record { place = printed.1 i; next = next i }), printed.0)
 
 -- ---- a part
-module _ (d : Device) (p : List ℕ) {b o : List ℕ} {at : ℕ} {r : Turned} {t : Bool} (said : t ≡ is_report p) where
+module _ (d : Device) (p : List ℕ) {b o : List ℕ} {at : ℕ} {r : Turned Device} {t : Bool} (said : t ≡ is_report p) where
   pub turn_report : t ≡ true → Took (report_turn d (read_report p)) b at r o → Took (turn d p) b at r o
   unfolding turn
   turn_report h k = rw (sym said ∙ h) k
@@ -54,38 +54,39 @@ module _ (d : Device) (p : List ℕ) {b o : List ℕ} {at : ℕ} {r : Turned} {t
   turn_line h k = rw (sym said ∙ h) k
 
 -- what a part shows: its caret, and behind that what bench prints
-pub took_shown : (d : Device) (p : List ℕ) {b o c : List ℕ} {at r q : ℕ} {t : Turned} → r ≡ refused_at d p → Wrote b at (caret r) o q
+pub took_shown : (d : Device) (p : List ℕ) {b o c : List ℕ} {at r q : ℕ} {t : Turned Device} → r ≡ refused_at d p → Wrote b at (caret r) o q
     → Took (turn d p) o q t c
     → Took (shown d p) b at t c
 unfolding shown
 took_shown d p e v k = record { prints = rw (← e) (v ▸ k.prints); next = k.next }
 
--- ---- the loop over the parts: what it has printed, with what the parts from `at` on print, is the whole
-pub record Running (first : Device) (s b : List ℕ) (d : Device) (o : List ℕ) (place at : ℕ) : Type 0 where
+-- ---- the loop over the parts: what it has printed, with what the parts of the rest print, is the whole
+pub record Running (first : Device) (s b : List ℕ) (d : Device) (o : List ℕ) (place : ℕ) (rest : List ℕ) : Type 0 where
   pub printed : List ℕ
   pub wrote : Wrote b 0 printed o place
-  pub whole : printed ++ turns d (parts (drop at s)) ≡ turns first (parts s)
-  pub inside : at ≤ length s
+  pub whole : printed ++ turns d (parts rest) ≡ turns first (parts s)
 
-pub running_first : (first : Device) (s b : List ℕ) → Running first s b first b 0 0
-running_first first s b = record { printed = []; wrote = wrote_none b 0; whole = refl; inside = omega arith }
+pub running_first : (first : Device) (s b : List ℕ) → Running first s b first b 0 s
+running_first first s b = record { printed = []; wrote = wrote_none b 0; whole = refl }
 
-module _ {first : Device} {s b : List ℕ} {d : Device} {o : List ℕ} {place at : ℕ} (h : Running first s b d o place at) where
-  pub running_more : {e : ℕ} {r : Turned} {c : List ℕ} → at < length s → e ≡ at + first_part (drop at s)
-      → Took (turn d (take (e - at) (drop at s))) o place r c
-      → Running first s b r.next c r.place e
+module _ {first : Device} {s b : List ℕ} {d : Device} {o : List ℕ} {place : ℕ} {rest : List ℕ} (h : Running first s b d o place rest) where
+  pub running_more : {p left : List ℕ} {r : Turned Device} {c : List ℕ} → parts rest ≡ p ∷ parts left → Took (turn d p) o place r c
+      → Running first s b r.next c r.place left
   unfolding turns
-  running_more {e} {r} l q t =
+  running_more {p} {left} {r} {c} e t =
       record {
-        printed = h.printed ++ (turn d (take (e - at) (drop at s))).prints;
+        printed = h.printed ++ (turn d p).prints;
         wrote = h.wrote ▸ t.prints;
-        whole = rw (t.next, append_assoc) (rw (part_first s at l q) at h.whole);
-        inside = part_inside s at l q;
+        whole = rw (t.next, append_assoc) (rw e at h.whole);
       }
 
-  pub running_end : length s ≤ at → Wrote b 0 (turns first (parts s)) o place
+  pub running_end : length rest ≡ 0 → Wrote b 0 (turns first (parts s)) o place
   unfolding turns parts
-  running_end l = rw (← h.whole, drop_of_length-le s l, append-nil) h.wrote
+  running_end l = go rest l h.whole
+    where
+      go : (r : List ℕ) → length r ≡ 0 → h.printed ++ turns d (parts r) ≡ turns first (parts s) → Wrote b 0 (turns first (parts s)) o place
+      go [] l e = rw (← e, append-nil) h.wrote
+      go (c ∷ r) l e = absurd (omega arith)
 
 -- ---- the whole run
 pub ran : (s b : List ℕ) {n : ℕ} {d : Device} {c : List ℕ} {r : ℕ} → n ≡ min 4096 (length s) → d ≡ bench_device

@@ -1,6 +1,6 @@
 -- What the program `bench` prints, from the bytes of its standard input to those of its standard output.
 -- A part is a line or a motor report; it prints one line, or several with info lines or an alert, and makes the next record.
-use Rattle.std.specs.Prelude.{◌≡◌, cond, List, [], ◌∷◌, ◌++◌, ℕ, pos as plus, take, replicate}
+use Rattle.std.specs.Prelude.{◌≡◌, Option, None, Some, cond, List, [], ◌∷◌, ◌++◌, ℕ, pos as plus, take, replicate}
 use Rattle.laws.specs.Refusals.{BADREPORT}
 use Rattle.units.specs.Units.{number}
 use Rattle.buffer.specs.Wrote.{Wrote}
@@ -10,12 +10,11 @@ use Rattle.reply.specs.Help.{longest_answer}
 use Rattle.reply.specs.Reply.{longest_reply}
 use Rattle.carriage.specs.Step.{Stepped, silent, step, refused_at}
 use Rattle.carriage.specs.Report.{report}
-use Rattle.input.specs.declared.reports.ReportRead.{ReportRead}
-use Rattle.input.specs.declared.reports.ReportRead.TheVariants.{Report, Misspelt}
+use Rattle.input.specs.declared.parts.Turned.{Turned}
+use Rattle.input.specs.declared.reports.MotorReport.{MotorReport}
 use Rattle.input.specs.ReportLines.{read_report}
 use Rattle.input.specs.Parts.{parts}
 use Rattle.input.specs.Prints.{is_report, reported, answered, caret}
-use Rattle.session.specs.declared.Turned.{Turned}
 
 -- what a part prints, and the next record
 pub record Turn : Type 0 where
@@ -23,12 +22,12 @@ pub record Turn : Type 0 where
   pub next : Device
 
 -- "22 if misspelt, over 80 bytes or without a footer"
-abbrev pub report_answer : Device → ReportRead → List ℕ → Stepped
-report_answer d Misspelt b = silent BADREPORT d b
-report_answer d (Report axis kind last) b = report d axis kind last b
+abbrev pub report_answer : Device → Option MotorReport → List ℕ → Stepped
+report_answer d None b = silent BADREPORT d b
+report_answer d (Some r) b = report d r.axis r.kind r.last b
 
 -- "it prints `report N`", and behind it the alert; the buffer that is lent has 96 bytes
-unfoldable pub report_turn : Device → ReportRead → Turn
+unfoldable pub report_turn : Device → Option MotorReport → Turn
 report_turn d r =
     let s = report_answer d r (replicate longest_reply 0) in
     record { prints = reported s.answer.number s.answer.length s.buffer; next = s.answer.next }
@@ -62,6 +61,6 @@ unfoldable pub bench : List ℕ → List ℕ
 bench input = turns bench_device (parts (take longest_input input))
 
 -- c is b with what the turn t prints from place `at` on, and r the place behind it and the next record
-pub record Took (t : Turn) (b : List ℕ) (at : ℕ) (r : Turned) (c : List ℕ) : Type 0 where
+pub record Took (t : Turn) (b : List ℕ) (at : ℕ) (r : Turned Device) (c : List ℕ) : Type 0 where
   pub prints : Wrote b at t.prints c r.place
   pub next : r.next ≡ t.next

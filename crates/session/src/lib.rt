@@ -11,8 +11,8 @@ ghost use Rattle.session.specs.Bench.{Took, report_answer, report_turn, line_tur
 
 use carriage::Answer;
 use device::Device;
-use input::parts::{is_report, part_end, put_answer, put_caret, put_reported};
-use input::reports::ReportRead;
+use input::parts::{Turned, is_report, put_answer, put_caret, put_reported};
+use input::reports::MotorReport;
 use laws::BADREPORT;
 use reply::{LONGEST_ANSWER, LONGEST_REPLY};
 use units::{Number, lesser};
@@ -20,28 +20,21 @@ use units::{Number, lesser};
 // "reads at most 4,096 bytes of standard input"
 pub const LONGEST_INPUT: usize = 4096;
 
-// The place behind what a turn printed, and the next record.
-#[derive(Clone, Copy)]
-pub struct Turned {
-    pub place: usize,
-    pub next: Device,
-}
-
 // What a report makes of a record; 22 where it is misspelt.
-fn report_answer(d: Device, r: ReportRead, alert: &mut [u8]) -> Answer
-    ensures { Gives (report_answer d r alert.old) result alert.new }
+fn report_answer(d: Device, report: Option<MotorReport>, alert: &mut [u8]) -> Answer
+    ensures { Gives (report_answer d report alert.old) result alert.new }
 {
-    match r {
-        ReportRead::Misspelt => Answer {
+    match report {
+        Some(MotorReport { axis, kind, last }) => carriage::report(d, axis, kind, last, alert),
+        None => Answer {
             number: BADREPORT,
             length: 0,
             next: d,
         },
-        ReportRead::Report(axis, kind, last) => carriage::report(d, axis, kind, last, alert),
     }
 }
 
-fn report_turn(d: Device, part: &[u8], out: &mut [u8], at: usize) -> Turned
+fn report_turn(d: Device, part: &[u8], out: &mut [u8], at: usize) -> Turned<Device>
     ensures { Took (report_turn d (read_report part.now)) out.old at result out.new }
 {
     let mut alert = [0; LONGEST_REPLY];
@@ -53,7 +46,7 @@ fn report_turn(d: Device, part: &[u8], out: &mut [u8], at: usize) -> Turned
     }
 }
 
-fn line_turn(d: Device, part: &[u8], out: &mut [u8], at: usize) -> Turned
+fn line_turn(d: Device, part: &[u8], out: &mut [u8], at: usize) -> Turned<Device>
     ensures { Took (line_turn d part.now) out.old at result out.new }
 {
     let mut reply = [0; LONGEST_ANSWER];
@@ -66,7 +59,7 @@ fn line_turn(d: Device, part: &[u8], out: &mut [u8], at: usize) -> Turned
 }
 
 // What one part makes of a record, and what it prints.
-pub fn turn(d: Device, part: &[u8], out: &mut [u8], at: usize) -> Turned
+pub fn turn(d: Device, part: &[u8], out: &mut [u8], at: usize) -> Turned<Device>
     ensures { Took (turn_of d part.now) out.old at result out.new }
 {
     if is_report(part) {
@@ -77,7 +70,7 @@ pub fn turn(d: Device, part: &[u8], out: &mut [u8], at: usize) -> Turned
 }
 
 // What one part makes of a record, and what it shows to a person: where it went wrong, and what bench prints.
-pub fn show(d: Device, part: &[u8], out: &mut [u8], at: usize) -> Turned
+pub fn show(d: Device, part: &[u8], out: &mut [u8], at: usize) -> Turned<Device>
     ensures { Took (shown d part.now) out.old at result out.new }
 {
     let place = put_caret(out, at, carriage::refused_at(d, part));
@@ -98,13 +91,10 @@ fn run_parts(first: Device, input: &[u8], out: &mut [u8]) -> usize
 {
     let mut d = first;
     let mut place: usize = 0;
-    let mut at: usize = 0;
-    while at < input.len() {
-        let end = part_end(input, at);
-        let t = turn(d, &input[at..end], out, place);
+    for part in input.split_inclusive(|byte| *byte == b'\n') {
+        let t = turn(d, part, out, place);
         d = t.next;
         place = t.place;
-        at = end;
     }
     place
 }

@@ -1,28 +1,15 @@
--- `session::run_parts` meets its contract. Invariant: what is printed, with what the parts from `at` on print, is the whole.
-use native.Mathlib.Omega.{arith}
-use Rattle.input.proofs.Parted.{part_past, part_inside}
-use Rattle.session.proofs.Turns.{running_first, running_more, running_end}
+-- Each part is the first of the rest; at the end nothing is left.
+use Rattle.std.proofs.Common.{rules, tests}
+use Rattle.std.proofs.lemmas.Fn.{always_returns_same}
+use Rattle.input.proofs.Parted.{lf, split_part}
+use Rattle.session.proofs.Turns.{running_more, running_end}
 use Rattle.session.proofs.run_parts.Goals as goal
 
-pub loop-at-init : goal.loop-at-init
-loop-at-init c = running_first _ _ _
-
-pub slice_bounds-turn-count : goal.slice_bounds-turn-count
-slice_bounds-turn-count c = omega (arith, part_past _ _ c.loop-at-test.true c.part_end-end.ensures)
-
-pub slice_bounds-turn-start : goal.slice_bounds-turn-start
-slice_bounds-turn-start c = omega (arith, part_past _ _ c.loop-at-test.true c.part_end-end.ensures)
-
-pub slice_bounds-turn-end : goal.slice_bounds-turn-end
-slice_bounds-turn-end c = part_inside _ _ c.loop-at-test.true c.part_end-end.ensures
-
-pub loop-at-smaller : goal.loop-at-smaller
-loop-at-smaller c =
-    omega (arith, part_past _ _ c.loop-at-test.true c.part_end-end.ensures)
-
-pub loop-at-preserved : goal.loop-at-preserved
-loop-at-preserved c =
-    running_more c.loop-at.invariant c.loop-at-test.true c.part_end-end.ensures c.turn-t.ensures
+pub loop-part-preserved : goal.loop-part-preserved
+loop-part-preserved c =
+    let step = c.in-Some.ensures.steps in
+    let first = (step.1.2 lf (always_returns_same _ _ _ (λ byte found f q. search (rules, tests)))).1 in
+    running_more c.loop-part.invariant (split_part _ _ _ step.1.0 step.2 step.0 step.1.1 first) c.turn-t.ensures
 
 pub returns : goal.returns
-returns c = running_end c.loop-at.invariant c.loop-at-test.false
+returns c = running_end c.loop-part.invariant c.in-None.ensures.steps.0
