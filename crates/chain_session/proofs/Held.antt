@@ -9,12 +9,11 @@ use lib.ListN.{length, take, drop, get_or, set, length-take, take-append-drop, d
 use Rattle.laws.proofs.Answers.{one_answer}
 use Rattle.laws.proofs.Order.{lt_or_le}
 use Rattle.device.specs.declared.Device.{Device}
-use Rattle.chain.specs.Chain.{Chained, chain}
+use Rattle.chain.specs.Chain.{Chained}
 use Rattle.input.proofs.Prints.{first_bytes}
 use Rattle.chain_session.specs.declared.Cable.{Cable}
 use Rattle.chain_session.specs.declared.Heard.{Heard}
-use Rattle.chain_session.specs.declared.Lent.{Lent}
-use Rattle.chain_session.specs.Held.{records_of, holding, Hears, Lends}
+use Rattle.chain_session.specs.Held.{records_of, holding, Hears}
 
 -- an element of the first n, changed where it stands
 pub set_front : {X : Type 0} (xs : List X) (n i : ℕ) (x : X) → i < n → i < length xs → set xs i x ≡ set (take n xs) i x ++ drop n xs
@@ -47,12 +46,6 @@ module _ (c : Cable) (full : length c.devices ≡ 16) {n : ℕ} (is : n ≡ min 
 
   pub records_count : length (records_of c) ≡ n
   records_count = length-take c.count c.devices ∙ sym same_count
-
-  pub hears : (l : List ℕ) (room : ℕ) {b b' : List ℕ} {r : Lent} → Lends (chain (take n c.devices) l room) (drop n c.devices) b b' r
-      → Hears (chain (records_of c) l room) c b b' (record { told = r.told; next = record { devices = r.devices; count = c.count } })
-  hears l room {r = r} g =
-      let h = rw (records_are, others_are) at g in
-      record { told = h.told; next = ap (λ (ds : List Device). record { devices = ds; count = c.count }) h.devices; left = h.left }
 
 -- The promise of `hear` leaves no choice.
 pub hears_one : {s : Chained} {c : Cable} {b b₁ b₂ : List ℕ} {q r : Heard} → Hears s c b b₁ q → Hears s c b b₂ r → (q ≡ r) × (b₁ ≡ b₂)

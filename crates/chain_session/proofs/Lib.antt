@@ -1,4 +1,3 @@
-pub mod OwnArray
 pub mod Held
 pub mod Turns
 pub mod Room

@@ -23,8 +23,8 @@ use Rattle.carriage.proofs.Room.{unread_at_most_11, report_small, report_within}
 use Rattle.chain.specs.Chain.{Chained, next_of, number_of, refusal, refusal_of, refused, responds, refuses, chain}
 use Rattle.chain.proofs.Alone.{text_short}
 use Rattle.chain.proofs.Chains.{texts}
-use Rattle.input.specs.declared.reports.PlacedRead.{PlacedRead}
-use Rattle.input.specs.declared.reports.PlacedRead.TheVariants.{Report, Misspelt}
+use Rattle.std.specs.Prelude.{Option, None, Some}
+use Rattle.input.specs.declared.reports.PlacedReport.{PlacedReport}
 use Rattle.input.specs.ReportLines.{read_placed}
 use Rattle.input.specs.Prints.{is_report, told, reported, answered}
 use Rattle.input.proofs.Prints.{told_short}
@@ -39,18 +39,18 @@ record Reported (xs : List Device) (o : Outcome) : Type 0 where
 none_reported : (xs : List Device) → Reported xs (missed xs)
 none_reported xs = record { small = omega arith; short = omega arith; many = refl }
 
-all_reported : (xs : List Device) (r : PlacedRead) (b : List ℕ) → Reported xs (outcome xs r b)
+all_reported : (xs : List Device) (r : Option PlacedReport) (b : List ℕ) → Reported xs (outcome xs r b)
 unfolding outcome_at
-all_reported xs Misspelt b = none_reported xs
-all_reported xs (Report p axis kind last) b = go (leb 1 n && leb n (length xs))
+all_reported xs None b = none_reported xs
+all_reported xs (Some r) b = go (leb 1 n && leb n (length xs))
   where
     n : ℕ
-    n = place p.0
+    n = place r.place.0
 
-    go : (t : Bool) → Reported xs (cond t (takes xs (n - 1) axis kind last b) (missed xs))
+    go : (t : Bool) → Reported xs (cond t (takes xs (n - 1) r.report b) (missed xs))
     go true = record {
-      small = report_small (record_at xs (n - 1)) axis kind last b;
-      short = rw length-take (omega (arith, report_within (record_at xs (n - 1)) axis kind last b));
+      small = report_small (record_at xs (n - 1)) r.report.axis r.report.kind r.report.last b;
+      short = rw length-take (omega (arith, report_within (record_at xs (n - 1)) r.report.axis r.report.kind r.report.last b));
       many = length-set xs (n - 1) _;
     }
     go false = none_reported xs
@@ -88,7 +88,7 @@ heard xs l room = go (eqb (refused xs l room) 0)
 
 -- ---- a part
 module _ (xs : List Device) where
-  report_short : (r : PlacedRead) → length (report_turn xs r).prints ≤ 28
+  report_short : (r : Option PlacedReport) → length (report_turn xs r).prints ≤ 28
   unfolding report_turn reported text
   report_short r =
       let o = outcome xs r (replicate 96 0) in

@@ -1,9 +1,8 @@
 -- What the program `cable` prints, from the bytes of its standard input to those of its standard output. It is for a chain what bench
 -- is for one record: a part is a line or a motor report; it prints one line, or the answers of the chain, or a report and its alert, and
 -- makes the next records.
-use Rattle.std.specs.Prelude.{◌≡◌, cond, ◌&&◌, List, [], ◌∷◌, ◌++◌, ℕ, ◌-◌, ◌*◌, leb, pos as plus, length, take, get_or, set, replicate}
+use Rattle.std.specs.Prelude.{◌≡◌, Option, None, Some, cond, ◌&&◌, List, [], ◌∷◌, ◌++◌, ℕ, ◌-◌, ◌*◌, leb, pos as plus, length, take, get_or, set, replicate}
 use Rattle.laws.specs.Refusals.{BADREPORT}
-use Rattle.units.specs.declared.Number.{Number}
 use Rattle.units.specs.Units.{number, place}
 use Rattle.buffer.specs.Wrote.{Wrote}
 use Rattle.device.specs.declared.Device.{Device}
@@ -12,14 +11,14 @@ use Rattle.reply.specs.Help.{longest_answer}
 use Rattle.reply.specs.Reply.{longest_reply, joined}
 use Rattle.carriage.specs.Report.{report}
 use Rattle.chain.specs.Chain.{chain}
-use Rattle.input.specs.declared.reports.PlacedRead.{PlacedRead}
-use Rattle.input.specs.declared.reports.PlacedRead.TheVariants.{Report, Misspelt}
+use Rattle.input.specs.declared.parts.Turned.{Turned}
+use Rattle.input.specs.declared.reports.MotorReport.{MotorReport}
+use Rattle.input.specs.declared.reports.PlacedReport.{PlacedReport}
 use Rattle.input.specs.ReportLines.{read_placed}
 use Rattle.input.specs.Parts.{parts}
 use Rattle.input.specs.Prints.{is_report, reported, answered}
 use Rattle.chain_session.specs.declared.Cable.{Cable}
-use Rattle.chain_session.specs.declared.Reported.{Reported}
-use Rattle.chain_session.specs.declared.Turned.{Turned}
+use Rattle.chain_session.specs.declared.Heard.{Heard}
 use Rattle.chain_session.specs.Held.{holding}
 
 -- ---- a motor report for the record at a place of the chain, counted from 1
@@ -38,26 +37,26 @@ abbrev pub record_at : List Device → ℕ → Device
 record_at xs i = get_or xs i (fresh_as 1 1 0)
 
 -- it takes the report, with the buffer b for its alert
-abbrev pub takes : List Device → ℕ → Number → Number → Number → List ℕ → Outcome
-takes xs i axis kind last b =
-    let s = report (record_at xs i) axis kind last b in
+abbrev pub takes : List Device → ℕ → MotorReport → List ℕ → Outcome
+takes xs i r b =
+    let s = report (record_at xs i) r.axis r.kind r.last b in
     record { number = s.answer.number; alert = take s.answer.length s.buffer; next = set xs i s.answer.next }
 
 abbrev pub missed : List Device → Outcome
 missed xs = record { number = BADREPORT; alert = []; next = xs }
 
 -- "22 if misspelt, over 80 bytes, without a footer, or if there is no such place"
-unfoldable pub outcome_at : List Device → ℕ → Number → Number → Number → List ℕ → Outcome
-outcome_at xs p axis kind last b = cond (leb 1 p && leb p (length xs)) (takes xs (p - 1) axis kind last b) (missed xs)
+unfoldable pub outcome_at : List Device → ℕ → MotorReport → List ℕ → Outcome
+outcome_at xs p r b = cond (leb 1 p && leb p (length xs)) (takes xs (p - 1) r b) (missed xs)
 
-abbrev pub outcome : List Device → PlacedRead → List ℕ → Outcome
-outcome xs Misspelt b = missed xs
-outcome xs (Report p axis kind last) b = outcome_at xs (place p.0) axis kind last b
+abbrev pub outcome : List Device → Option PlacedReport → List ℕ → Outcome
+outcome xs None b = missed xs
+outcome xs (Some r) b = outcome_at xs (place r.place.0) r.report b
 
 -- a number, an alert at the front of the buffer b' and a chain afterwards that are just that
-pub record Reports (o : Outcome) (c : Cable) (r : Reported) (b' : List ℕ) : Type 0 where
-  pub number : r.number ≡ o.number
-  pub alert : take r.length b' ≡ o.alert
+pub record Reports (o : Outcome) (c : Cable) (r : Heard) (b' : List ℕ) : Type 0 where
+  pub number : r.told.number ≡ o.number
+  pub alert : take r.told.length b' ≡ o.alert
   pub next : r.next ≡ holding c o.next
 
 -- ---- a turn
@@ -68,7 +67,7 @@ pub record Turn : Type 0 where
   pub next : List Device
 
 -- "it prints `report N`", and behind it the alert; the buffer that is lent for it has 96 bytes
-unfoldable pub report_turn : List Device → PlacedRead → Turn
+unfoldable pub report_turn : List Device → Option PlacedReport → Turn
 report_turn xs r =
     let o = outcome xs r (replicate longest_reply 0) in
     record { prints = reported o.number (length o.alert) o.alert; next = o.next }
@@ -101,6 +100,6 @@ unfoldable pub cable : List ℕ → List ℕ
 cable input = turns cable_records (parts (take 4096 input))
 
 -- b' is b with what the turn t prints from place `at` on, and r the place behind it and the chain afterwards
-pub record Took (t : Turn) (c : Cable) (b : List ℕ) (at : ℕ) (r : Turned) (b' : List ℕ) : Type 0 where
+pub record Took (t : Turn) (c : Cable) (b : List ℕ) (at : ℕ) (r : Turned Cable) (b' : List ℕ) : Type 0 where
   pub prints : Wrote b at t.prints b' r.place
   pub next : r.next ≡ holding c t.next

@@ -6,7 +6,6 @@ use Rattle.reply.specs.Reply.{joined}
 use Rattle.chain.specs.Chain.{Chained}
 use Rattle.chain_session.specs.declared.Cable.{Cable}
 use Rattle.chain_session.specs.declared.Heard.{Heard}
-use Rattle.chain_session.specs.declared.Lent.{Lent}
 
 -- the records of the chain
 abbrev pub records_of : Cable → List Device
@@ -20,10 +19,4 @@ holding c ys = record { devices = ys ++ drop c.count c.devices; count = c.count 
 pub record Hears (s : Chained) (c : Cable) (b b' : List ℕ) (r : Heard) : Type 0 where
   pub told : r.told ≡ record { number = s.number; length = length (joined s.answers) }
   pub next : r.next ≡ holding c s.devices
-  pub left : b' ≡ joined s.answers ++ drop (length (joined s.answers)) b
-
--- the same of places that were lent, beside others
-pub record Lends (s : Chained) (others : List Device) (b b' : List ℕ) (r : Lent) : Type 0 where
-  pub told : r.told ≡ record { number = s.number; length = length (joined s.answers) }
-  pub devices : r.devices ≡ s.devices ++ others
   pub left : b' ≡ joined s.answers ++ drop (length (joined s.answers)) b

@@ -2,16 +2,16 @@
 // specs/Held.antt says what a line makes of such a chain, specs/Cable.antt what is printed, for every input.
 #![tactic(auto)]
 
-ghost use Rattle.std.specs.Prelude.{◌≡◌, ◌≤◌, length, take, drop};
+ghost use Rattle.std.specs.Prelude.{◌≡◌, length};
 ghost use Rattle.chain.specs.Chain.{chain as chainOf};
 ghost use Rattle.input.specs.ReportLines.{read_placed};
-ghost use Rattle.chain_session.specs.Held.{Lends, Hears, records_of};
+ghost use Rattle.chain_session.specs.Held.{Hears, records_of};
 ghost use Rattle.chain_session.specs.Cable.{outcome_at, outcome, Reports, report_turn, line_turn, turn as turn_of, Took, cable_start};
 
 use chain::{LONGEST_CHAIN, Told, chain};
 use device::Device;
-use input::parts::{is_report, put_answer, put_reported};
-use input::reports::PlacedRead;
+use input::parts::{Turned, is_report, put_answer, put_reported};
+use input::reports::{MotorReport, PlacedReport};
 use laws::BADREPORT;
 use reply::{LONGEST_ANSWER, LONGEST_REPLY};
 use units::{Number, lesser};
@@ -26,137 +26,79 @@ pub struct Cable {
     pub count: usize,
 }
 
-// The answer to a line, and the chain afterwards.
+// What a line or a report came to, and the chain afterwards.
 #[derive(Clone, Copy)]
 pub struct Heard {
     pub told: Told,
     pub next: Cable,
 }
 
-// The place behind what a turn printed, and the chain afterwards.
-#[derive(Clone, Copy)]
-pub struct Turned {
-    pub place: usize,
-    pub next: Cable,
-}
-
-// What a report makes of a chain: its number, the length of its alert, and the chain afterwards.
-#[derive(Clone, Copy)]
-struct Reported {
-    number: u8,
-    length: usize,
-    next: Cable,
-}
-
-// What comes back of places that were lent.
-#[derive(Clone, Copy)]
-struct Lent {
-    told: Told,
-    devices: [Device; LONGEST_CHAIN],
-}
-
-fn keep(told: Told, devices: [Device; LONGEST_CHAIN]) -> Lent
-    ensures { result ≡ record { told = told; devices = devices } }
-{
-    Lent { told, devices }
-}
-
-// The first n places hear a line: the only code that lends records of its own.
-fn lend(mut devices: [Device; LONGEST_CHAIN], n: usize, line: &[u8], reply: &mut [u8]) -> Lent
-    requires { n ≤ 16 }
-    ensures { Lends (chainOf (take n devices) line.now (length reply.old)) (drop n devices) reply.old reply.new result }
-{
-    let told = chain(&mut devices[..n], line, reply);
-    keep(told, devices)
-}
-
-// What a line makes of a chain and of a buffer.
+// What a line makes of a chain and of a buffer: the only code that lends records of its own.
 pub fn hear(c: Cable, line: &[u8], reply: &mut [u8]) -> Heard
     ensures { Hears (chainOf (records_of c) line.now (length reply.old)) c reply.old reply.new result }
 {
-    let devices = c.devices;
+    let mut devices = c.devices;
     let count = c.count;
-    let l = lend(devices, lesser(count, LONGEST_CHAIN), line, reply);
-    let told = l.told;
-    let devices = l.devices;
+    let told = chain(&mut devices[..lesser(count, LONGEST_CHAIN)], line, reply);
     Heard {
         told,
         next: Cable { devices, count },
     }
 }
 
+// A report for no place of the chain, or for none at all.
+fn missed(c: Cable) -> Heard
+    ensures { result ≡ record { told = record { number = 22; length = 0 }; next = c } }
+{
+    let told = Told {
+        number: BADREPORT,
+        length: 0,
+    };
+    Heard { told, next: c }
+}
+
 // What a report makes of the record at a place of the chain, counted from 1, and of a buffer, in which its alert stands; 22 where there
 // is no such place.
-fn report_at(
-    c: Cable,
-    place: usize,
-    axis: Number,
-    kind: Number,
-    last: Number,
-    alert: &mut [u8],
-) -> Reported
-    ensures { Reports (outcome_at (records_of c) place axis kind last alert.old) c result alert.new }
+fn report_at(mut c: Cable, place: usize, report: MotorReport, alert: &mut [u8]) -> Heard
+    ensures { Reports (outcome_at (records_of c) place report alert.old) c result alert.new }
 {
-    let count = c.count;
-    if place == 0 {
-        return Reported {
-            number: BADREPORT,
-            length: 0,
-            next: c,
-        };
-    }
-    if lesser(count, LONGEST_CHAIN) < place {
-        return Reported {
-            number: BADREPORT,
-            length: 0,
-            next: c,
-        };
+    if place == 0 || lesser(c.count, LONGEST_CHAIN) < place {
+        return missed(c);
     }
     let i = place - 1;
-    let mut devices = c.devices;
-    let a = carriage::report(devices[i], axis, kind, last, alert);
-    let next = a.next;
-    devices[i] = next;
-    Reported {
+    let MotorReport { axis, kind, last } = report;
+    let a = carriage::report(c.devices[i], axis, kind, last, alert);
+    c.devices[i] = a.next;
+    let told = Told {
         number: a.number,
         length: a.length,
-        next: Cable { devices, count },
-    }
+    };
+    Heard { told, next: c }
 }
 
-fn report(c: Cable, r: PlacedRead, alert: &mut [u8]) -> Reported
-    ensures { Reports (outcome (records_of c) r alert.old) c result alert.new }
+fn report(c: Cable, placed: Option<PlacedReport>, alert: &mut [u8]) -> Heard
+    ensures { Reports (outcome (records_of c) placed alert.old) c result alert.new }
 {
-    match r {
-        PlacedRead::Misspelt => Reported {
-            number: BADREPORT,
-            length: 0,
-            next: c,
-        },
-        PlacedRead::Report(place, axis, kind, last) => report_at(
-            c,
-            place.place(),
-            axis,
-            kind,
-            last,
-            alert,
-        ),
+    match placed {
+        Some(PlacedReport { place, report }) => report_at(c, place.place(), report, alert),
+        None => missed(c),
     }
 }
 
-fn report_turn(c: Cable, part: &[u8], out: &mut [u8], at: usize) -> Turned
+fn report_turn(c: Cable, part: &[u8], out: &mut [u8], at: usize) -> Turned<Cable>
     ensures { Took (report_turn (records_of c) (read_placed part.now)) c out.old at result out.new }
 {
     let mut alert = [0; LONGEST_REPLY];
-    let o = report(c, input::reports::read_placed(part), &mut alert);
-    let next = o.next;
+    let h = report(c, input::reports::read_placed(part), &mut alert);
+    let told = h.told;
+    let next = h.next;
     Turned {
-        place: put_reported(out, at, o.number, o.length, &alert),
+        place: put_reported(out, at, told.number, told.length, &alert),
         next,
     }
 }
 
-fn line_turn(c: Cable, part: &[u8], out: &mut [u8], at: usize) -> Turned
+fn line_turn(c: Cable, part: &[u8], out: &mut [u8], at: usize) -> Turned<Cable>
     ensures { Took (line_turn (records_of c) part.now) c out.old at result out.new }
 {
     let mut answers = [0; MOST_ANSWERS];
@@ -171,7 +113,7 @@ fn line_turn(c: Cable, part: &[u8], out: &mut [u8], at: usize) -> Turned
 }
 
 // What one part makes of a chain, and what it prints.
-pub fn turn(c: Cable, part: &[u8], out: &mut [u8], at: usize) -> Turned
+pub fn turn(c: Cable, part: &[u8], out: &mut [u8], at: usize) -> Turned<Cable>
     ensures { Took (turn_of (records_of c) part.now) c out.old at result out.new }
 {
     if is_report(part) {
