@@ -2,18 +2,15 @@
 // plain one, whose file tools/plain/chain_speed.c says what both read and write.
 #![tactic(auto)]
 
+use chain::LONGEST_CHAIN;
 use chain_session::Cable;
 use device::Device;
-use input::reports::ReportRead;
+use input::reports::{MotorReport, read_report};
 use reply::LONGEST_REPLY;
-use std::io;
+use std::{array, io};
 use stream::reading::read_full;
+use stream::sums::{Tally, added, added_bytes};
 use units::Number;
-
-// What was done: how many calls, and a sum over what they answered.
-fn say(rt: &impl Print, calls: u64, sum: u64) -> io::Result<()> {
-    println!(rt; "{calls} {sum}")
-}
 
 fn number_of(n: usize) -> Number {
     Number::of_count((n % 256) as u8)
@@ -28,12 +25,10 @@ fn fresh_at(i: usize) -> Device {
 }
 
 fn fresh_chain(count: usize) -> Cable {
-    let first = fresh_at(0);
-    let mut devices = [first; 16];
-    for i in 1..16 {
-        devices[i] = fresh_at(i);
+    Cable {
+        devices: array::from_fn(fresh_at),
+        count,
     }
-    Cable { devices, count }
 }
 
 // Axes 1 and 2 reached home at 0.
@@ -51,65 +46,50 @@ fn homed(c: Cable, home: bool, reply: &mut [u8]) -> Cable {
         return c;
     }
     let h = chain_session::hear(c, b"/home\n", reply);
-    let count = h.next.count;
-    let mut devices = h.next.devices;
-    for i in 0..16 {
-        devices[i] = reached(devices[i]);
+    Cable {
+        devices: h.next.devices.map(reached),
+        count: h.next.count,
     }
-    Cable { devices, count }
 }
 
-// The sum of all numbers and lengths, modulo 2^31.
+// The sum of all numbers and lengths.
 fn hear_often(first: Cable, line: &[u8], many: usize, reply: &mut [u8]) -> u64 {
     let mut c = first;
-    let mut sum: u64 = 0;
+    let mut sum = 0;
     for _ in 0..many {
         let h = chain_session::hear(c, line, reply);
         let told = h.told;
-        sum = (sum % 2147483648 + told.number as u64 + told.length as u64 % 2147483648)
-            % 2147483648;
+        sum = added(added(sum, u64::from(told.number)), told.length as u64);
         c = h.next;
     }
     sum
 }
 
-fn sum_of(s: &[u8], from: u64) -> u64 {
-    let mut sum = from;
-    for b in s {
-        sum = (sum % 2147483648 + *b as u64) % 2147483648;
-    }
-    sum
-}
-
-fn run(
-    rt: &impl Print,
-    repeat: Number,
-    length: Number,
-    home: Number,
-    line: &[u8],
-) -> io::Result<()> {
-    let count = length.place();
-    if 16 < count {
-        return say(rt, 0, 0);
-    }
-    if count == 0 {
-        return say(rt, 0, 0);
+// The numbers of the report are how often the line is heard, how long the chain is, and 1 where its axes are homed first.
+fn run(asked: MotorReport, line: &[u8]) -> Option<Tally> {
+    let count = asked.kind.place();
+    if count == 0 || LONGEST_CHAIN < count {
+        return None;
     }
     let mut reply = [0u8; chain_session::MOST_ANSWERS];
-    let c = homed(fresh_chain(count), home.place() == 1, &mut reply);
-    let many = repeat.place();
+    let c = homed(fresh_chain(count), asked.last.place() == 1, &mut reply);
+    let many = asked.axis.place();
     let sum = hear_often(c, line, many, &mut reply);
-    say(rt, many as u64, sum_of(&reply, sum))
+    Some(Tally {
+        calls: many as u64,
+        sum: added_bytes(sum, &reply),
+    })
+}
+
+// The first 16 bytes are the report, and what stands behind them is the line.
+fn tally(input: &[u8]) -> Option<Tally> {
+    let (head, line) = input.split_at_checked(16)?;
+    run(read_report(head)?, line)
 }
 
 fn main(rt: HostRuntime) -> io::Result<()> {
     let mut input = [0u8; 4096];
     let got = read_full(&mut rt.stdin(), &mut input)?;
-    if got < 16 {
-        return say(&rt, 0, 0);
-    }
-    match input::reports::read_report(&input[..16]) {
-        ReportRead::Misspelt => say(&rt, 0, 0),
-        ReportRead::Report(repeat, length, home) => run(&rt, repeat, length, home, &input[16..got]),
-    }
+    let done = tally(&input[..got]).unwrap_or_default();
+    println!(rt; "{done}")
 }

@@ -54,37 +54,26 @@ fn answer(rt: &impl Print, d: Device, part: &[u8]) -> io::Result<Device>
     Ok(t.next)
 }
 
-// The next record, and whether another part may follow.
-#[derive(Clone, Copy)]
-struct Served {
-    next: Device,
-    more: bool,
-}
-
-// One part, of which 81 bytes are kept. Over 80 bytes a part is answered as its first 81 are (session/proofs/LongPart.antt).
-fn serve(rt: &impl Print, input: &mut impl Read, d: Device) -> io::Result<Served> {
+// One part, of which 81 bytes are kept, and the next record where another part may follow. Over 80 bytes a part is answered as its
+// first 81 are (session/proofs/LongPart.antt).
+fn serve(rt: &impl Print, input: &mut impl Read, d: Device) -> io::Result<Option<Device>> {
     let mut buf = [0u8; 81];
-    let p = read_part(input, &mut buf)?;
-    if p.kept == 0 {
-        return Ok(Served {
-            next: d,
-            more: p.more,
-        });
-    }
-    Ok(Served {
-        next: answer(rt, d, &buf[..p.kept])?,
-        more: p.more,
-    })
+    let part = read_part(input, &mut buf)?;
+    let next = if part.kept == 0 {
+        d
+    } else {
+        answer(rt, d, &buf[..part.kept])?
+    };
+    Ok(part.more.then_some(next))
 }
 
 fn main(rt: HostRuntime) -> io::Result<()> {
     let mut d = session::bench_device();
     for _ in 0..u64::MAX {
-        let s = serve(&rt, &mut rt.stdin(), d)?;
-        if !s.more {
+        let Some(next) = serve(&rt, &mut rt.stdin(), d)? else {
             break;
-        }
-        d = s.next;
+        };
+        d = next;
     }
     Ok(())
 }

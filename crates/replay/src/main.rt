@@ -31,14 +31,6 @@ fn read_file(
     }
 }
 
-fn say(rt: &impl Print, k: u8, same: bool) -> io::Result<()> {
-    if same {
-        println!(rt; "{k} same")
-    } else {
-        println!(rt; "{k} DIFFERS")
-    }
-}
-
 // A session that is missing is none that agrees. An output has twice the room of a stored one: where it is cut, it differs.
 fn replay(rt: &(impl Files + AllocGlobal + Print), k: u8) -> io::Result<()> {
     let mut input = [0u8; 8192];
@@ -47,9 +39,9 @@ fn replay(rt: &(impl Files + AllocGlobal + Print), k: u8) -> io::Result<()> {
     let length = session::run(&input[..got], &mut output);
     let mut stored = [0u8; 16384];
     let expected = read_file(rt, k, ".out", &mut stored)?;
-    let same = words::same_bytes(&output[..length], &stored[..expected]);
-    let there = 0 < got;
-    say(rt, k, there & same)
+    let same = 0 < got && output[..length] == stored[..expected];
+    let told = if same { "same" } else { "DIFFERS" };
+    println!(rt; "{k} {told}")
 }
 
 fn main(rt: HostRuntime) -> io::Result<()> {

@@ -3,16 +3,12 @@
 #![tactic(auto)]
 
 use device::Device;
-use input::reports::ReportRead;
+use input::reports::{MotorReport, read_report};
 use reply::{LONGEST_ANSWER, LONGEST_REPLY};
 use std::io;
 use stream::reading::read_full;
+use stream::sums::{Tally, added, added_bytes};
 use units::Number;
-
-// What was done: how many steps, and a sum over what they answered.
-fn say(rt: &impl Print, steps: u64, sum: u64) -> io::Result<()> {
-    println!(rt; "{steps} {sum}")
-}
 
 // Axis k reached home at 0.
 fn reached(d: Device, k: i32) -> Device {
@@ -22,56 +18,55 @@ fn reached(d: Device, k: i32) -> Device {
 }
 
 // All axes homed at 0, or the record as it is; a report beyond the count changes nothing.
-fn homed(d: Device, home: bool, reply: &mut [u8]) -> Device {
+fn homed(first: Device, home: bool, reply: &mut [u8]) -> Device {
     if !home {
-        return d;
+        return first;
     }
-    let a = carriage::step(d, b"/home\n", reply);
-    let begun = a.next;
-    reached(reached(reached(reached(begun, 1), 2), 3), 4)
+    let a = carriage::step(first, b"/home\n", reply);
+    let mut d = a.next;
+    for k in 1..5 {
+        d = reached(d, k);
+    }
+    d
 }
 
-// The sum of all numbers and lengths, modulo 2^31.
+// The sum of all numbers and lengths.
 fn step_often(first: Device, line: &[u8], many: usize, reply: &mut [u8]) -> u64 {
     let mut d = first;
-    let mut sum: u64 = 0;
+    let mut sum = 0;
     for _ in 0..many {
         let a = carriage::step(d, line, reply);
-        sum = (sum % 2147483648 + a.number as u64 + a.length as u64 % 2147483648) % 2147483648;
+        sum = added(added(sum, u64::from(a.number)), a.length as u64);
         d = a.next;
     }
     sum
 }
 
-fn sum_of(s: &[u8], from: u64) -> u64 {
-    let mut sum = from;
-    for b in s {
-        sum = (sum % 2147483648 + *b as u64) % 2147483648;
-    }
-    sum
-}
-
-fn run(rt: &impl Print, repeat: Number, axes: Number, home: Number, line: &[u8]) -> io::Result<()> {
-    let fresh = Device::fresh(Number(1), (axes.place() % 256) as u8, Number(100));
+// The numbers of the report are how often the line is obeyed, how many axes there are, and 1 where these are homed first.
+fn run(asked: MotorReport, line: &[u8]) -> Option<Tally> {
+    let fresh = Device::fresh(Number(1), (asked.kind.place() % 256) as u8, Number(100));
     if fresh.number != 0 {
-        return say(rt, 0, 0);
+        return None;
     }
     let mut reply = [0u8; LONGEST_ANSWER];
-    let first = fresh.next;
-    let d = homed(first, home.place() == 1, &mut reply);
-    let many = repeat.place();
+    let d = homed(fresh.next, asked.last.place() == 1, &mut reply);
+    let many = asked.axis.place();
     let sum = step_often(d, line, many, &mut reply);
-    say(rt, many as u64, sum_of(&reply, sum))
+    Some(Tally {
+        calls: many as u64,
+        sum: added_bytes(sum, &reply),
+    })
+}
+
+// The first 15 bytes are the report, and what stands behind them is the line.
+fn tally(input: &[u8]) -> Option<Tally> {
+    let (head, line) = input.split_at_checked(15)?;
+    run(read_report(head)?, line)
 }
 
 fn main(rt: HostRuntime) -> io::Result<()> {
     let mut input = [0u8; 4096];
     let got = read_full(&mut rt.stdin(), &mut input)?;
-    if got < 15 {
-        return say(&rt, 0, 0);
-    }
-    match input::reports::read_report(&input[..15]) {
-        ReportRead::Misspelt => say(&rt, 0, 0),
-        ReportRead::Report(repeat, axes, home) => run(&rt, repeat, axes, home, &input[15..got]),
-    }
+    let done = tally(&input[..got]).unwrap_or_default();
+    println!(rt; "{done}")
 }

@@ -2,6 +2,23 @@
 // It is a sum modulo 2^31.
 ghost use Rattle.std.specs.Prelude.{◌≡◌, ◌+◌, ◌%◌, sum};
 
+use std::fmt;
+
+// How often a line was heard, and the sum over what was answered.
+#[derive(Clone, Copy, Default)]
+pub struct Tally {
+    pub calls: u64,
+    pub sum: u64,
+}
+
+impl fmt::Display for Tally {
+    fn fmt<W: fmt::Write>(&self, f: &mut fmt::Formatter<W>) -> fmt::Result {
+        let calls = self.calls;
+        let sum = self.sum;
+        write!(f, "{calls} {sum}")
+    }
+}
+
 // How far a sum goes: 2^31.
 pub const SUM_END: u64 = 2147483648;
 
