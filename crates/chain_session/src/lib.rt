@@ -14,7 +14,7 @@ use input::parts::{Turned, is_report, put_answer, put_reported};
 use input::reports::{MotorReport, PlacedReport};
 use laws::BADREPORT;
 use reply::{LONGEST_ANSWER, LONGEST_REPLY};
-use units::{Number, lesser};
+use units::Number;
 
 // 96 bytes for the reply and for each info line of each record of the longest chain.
 pub const MOST_ANSWERS: usize = 18432;
@@ -39,7 +39,7 @@ pub fn hear(c: Cable, line: &[u8], reply: &mut [u8]) -> Heard
 {
     let mut devices = c.devices;
     let count = c.count;
-    let told = chain(&mut devices[..lesser(count, LONGEST_CHAIN)], line, reply);
+    let told = chain(&mut devices[..count.min(LONGEST_CHAIN)], line, reply);
     Heard {
         told,
         next: Cable { devices, count },
@@ -62,7 +62,7 @@ fn missed(c: Cable) -> Heard
 fn report_at(mut c: Cable, place: usize, report: MotorReport, alert: &mut [u8]) -> Heard
     ensures { Reports (outcome_at (records_of c) place report alert.old) c result alert.new }
 {
-    if place == 0 || lesser(c.count, LONGEST_CHAIN) < place {
+    if place == 0 || c.count.min(LONGEST_CHAIN) < place {
         return missed(c);
     }
     let i = place - 1;
@@ -102,7 +102,7 @@ fn line_turn(c: Cable, part: &[u8], out: &mut [u8], at: usize) -> Turned<Cable>
     ensures { Took (line_turn (records_of c) part.now) c out.old at result out.new }
 {
     let mut answers = [0; MOST_ANSWERS];
-    let room = LONGEST_ANSWER * lesser(c.count, LONGEST_CHAIN);
+    let room = LONGEST_ANSWER * c.count.min(LONGEST_CHAIN);
     let h = hear(c, part, &mut answers[..room]);
     let told = h.told;
     let next = h.next;

@@ -7,7 +7,6 @@ ghost use Rattle.input.specs.Prints.{is_report, told, reported, answered, caret}
 
 use buffer::{put_byte, put_number, put_text};
 use laws::NOWHERE;
-use units::lesser;
 
 // The place behind what a turn printed, and what the turn made of a record, or of a chain.
 #[derive(Clone, Copy)]
@@ -54,7 +53,7 @@ pub fn put_reported(out: &mut [u8], at: usize, number: u8, long: usize, alert: &
     ensures { Wrote out.old at (reported number long alert.now) out.new result }
 {
     let end = put_told(out, at, b"report ", number);
-    put_text(out, end, &alert[..lesser(long, alert.len())])
+    put_text(out, end, &alert[..long.min(alert.len())])
 }
 
 // The first bytes of a reply's buffer, or the number of the silence where there are none.
@@ -64,7 +63,7 @@ pub fn put_answer(out: &mut [u8], at: usize, number: u8, long: usize, reply: &[u
     if long == 0 {
         put_told(out, at, b"silent ", number)
     } else {
-        put_text(out, at, &reply[..lesser(long, reply.len())])
+        put_text(out, at, &reply[..long.min(reply.len())])
     }
 }
 

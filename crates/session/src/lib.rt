@@ -15,7 +15,7 @@ use input::parts::{Turned, is_report, put_answer, put_caret, put_reported};
 use input::reports::MotorReport;
 use laws::BADREPORT;
 use reply::{LONGEST_ANSWER, LONGEST_REPLY};
-use units::{Number, lesser};
+use units::Number;
 
 // "reads at most 4,096 bytes of standard input"
 pub const LONGEST_INPUT: usize = 4096;
@@ -103,6 +103,6 @@ fn run_parts(first: Device, input: &[u8], out: &mut [u8]) -> usize
 pub fn run(input: &[u8], out: &mut [u8]) -> usize
     ensures { Wrote out.old 0 (bench input.now) out.new result }
 {
-    let n = lesser(LONGEST_INPUT, input.len());
+    let n = LONGEST_INPUT.min(input.len());
     run_parts(bench_device(), &input[..n], out)
 }

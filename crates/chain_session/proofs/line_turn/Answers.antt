@@ -9,10 +9,10 @@ use borrow.Author.Rules.{rules}
 use Rattle.chain_session.proofs.line_turn.Goals as goal
 
 pub slice_bounds-hear-end : goal.slice_bounds-hear-end
-slice_bounds-hear-end c = sym (length-take-le _ _ (omega (arith, c.lesser-room.ensures)))
+slice_bounds-hear-end c = sym (length-take-le _ _ (omega (arith, c.min-room.ensures)))
 
 pub returns : goal.returns
 returns c =
     let sixteen : length c.args.c.devices ≡ 16 = search (rules, unmapped) in
-    took_line c.args.c sixteen c.lesser-room.ensures c.args.part.now
-    (length-take-le _ _ (omega (arith, c.lesser-room.ensures))) _ c.hear-h.ensures c.put_answer.ensures
+    took_line c.args.c sixteen c.min-room.ensures c.args.part.now
+    (length-take-le _ _ (omega (arith, c.min-room.ensures))) _ c.hear-h.ensures c.put_answer.ensures

@@ -5,8 +5,8 @@ use Rattle.session.proofs.Turns.{ran}
 use Rattle.session.proofs.run.Goals as goal
 
 pub slice_bounds-run_parts-end : goal.slice_bounds-run_parts-end
-slice_bounds-run_parts-end c = simp length-take (omega (arith, c.lesser-n.ensures))
+slice_bounds-run_parts-end c = simp length-take (omega (arith, c.min-n.ensures))
 
 pub returns : goal.returns
 returns c =
-    ran _ _ c.lesser-n.ensures c.bench_device.ensures c.run_parts.ensures
+    ran _ _ c.min-n.ensures c.bench_device.ensures c.run_parts.ensures

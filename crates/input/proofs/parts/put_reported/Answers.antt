@@ -6,9 +6,9 @@ use Rattle.input.proofs.Prints.{report_alert}
 use Rattle.input.proofs.parts.put_reported.Goals as goal
 
 pub slice_bounds-put_text-end : goal.slice_bounds-put_text-end
-slice_bounds-put_text-end c = simp length-take (omega (arith, c.lesser.ensures))
+slice_bounds-put_text-end c = simp length-take (omega (arith, c.min.ensures))
 
 pub returns : goal.returns
 unfolding text
 returns c =
-    report_alert _ _ _ c.put_told-end.ensures c.lesser.ensures c.put_text.ensures
+    report_alert _ _ _ c.put_told-end.ensures c.min.ensures c.put_text.ensures
