@@ -3,6 +3,7 @@
 #![tactic(auto)]
 
 ghost use Rattle.std.specs.Prelude.{◌≡◌, cond, ◌∷◌, [], ◌++◌, ◌%◌, ◌+◌, ◌≤◌, length};
+ghost use Rattle.laws.specs.Text.{space};
 ghost use Rattle.numbers.specs.Decimal.{digits, decimal, two_digits, hex_digit, hex_pair};
 ghost use Rattle.buffer.specs.Wrote.{Wrote};
 
@@ -30,6 +31,14 @@ pub fn put_text(buf: &mut [u8], at: usize, text: &[u8]) -> usize
     } else {
         at
     }
+}
+
+// A word behind a space.
+pub fn put_word(buf: &mut [u8], at: usize, w: &[u8]) -> usize
+    ensures { Wrote buf.old at (space ∷ w.now) buf.new result }
+{
+    let next = put_byte(buf, at, b' ');
+    put_text(buf, next, w)
 }
 
 // One text or the other.

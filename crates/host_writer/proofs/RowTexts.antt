@@ -1,35 +1,19 @@
--- The code's texts: a setting's name in the text of names, and a command's row in the text of rows. Neither text stands here.
+-- The code's text of rows, which does not stand here: a command's row in it.
 -- Assumes nothing.
 use mathlib.Core.Path.{◌≡◌, refl, sym, ap, ◌∙◌}
 use mathlib.Core.Bool.{cond}
 use mathlib.Core.List.{List, [], ◌∷◌, ◌++◌, map, append-nil}
-use Prim.Native.Nat.{ℕ, zero, suc}
-use lib.ListN.{get_or, drop}
+use Prim.Native.Nat.{ℕ}
+use lib.ListN.{get_or}
 use Rattle.laws.proofs.Lists.{map_at}
 use Rattle.laws.proofs.Spaced.{trail}
-use Rattle.words.specs.Cutting.{head_word}
-use Rattle.command.specs.Settings.{about, name_of}
-use Rattle.command.specs.declared.Setting.{Setting}
 use Rattle.command.specs.declared.Command.{Command}
 use Rattle.command.specs.declared.forms.Form.{Form}
 use Rattle.command.specs.Forms.{form_of}
 use Rattle.command.specs.declared.kinds.Kind.{Kind}
 use Rattle.command.specs.Commands.{Row, none, table, row_at, kind_at, is_words, any_words, filled, command_words}
 use Rattle.buffer.specs.Wrote.{Wrote}
-use Rattle.host_writer.specs.Names.{names, name_at}
 use Rattle.host_writer.specs.Rows.{rows, row_of, filled_row}
-
--- ---- the text of names
-word_at : (ws : List (List ℕ)) (k : ℕ) → head_word (drop k ws) ≡ get_or ws k []
-unfolding head_word
-word_at [] zero = refl
-word_at [] (suc k) = refl
-word_at (w ∷ ws) zero = refl
-word_at (w ∷ ws) (suc k) = word_at ws k
-
-pub name_is : (s : Setting) (k : ℕ) (w : List ℕ) → name_at k ≡ (about s).name → w ≡ head_word (drop k names) → w ≡ name_of s
-unfolding name_of
-name_is s k w e q = q ∙ word_at names k ∙ e
 
 -- ---- the text of rows
 -- the words of a row of the table, as `filled_row` gives them

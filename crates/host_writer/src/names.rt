@@ -1,62 +1,48 @@
-// Writes a word, a setting's name and the words of a message into a lent buffer, each behind a space.
-// The names are looked up in one text; specs/Names.antt has their order.
+// Writes a setting's name and the words of a message into a lent buffer, each behind a space.
+// The names are those of command/specs/Settings.
 ghost use Rattle.std.specs.Prelude.{◌≡◌, ◌∷◌};
 ghost use Rattle.laws.specs.Text.{space};
 ghost use Rattle.laws.proofs.Spaced.{trail};
 ghost use Rattle.words.specs.Cutting.{cut};
-ghost use Rattle.command.specs.Settings.{about, name_of};
+ghost use Rattle.command.specs.Settings.{name_of};
 ghost use Rattle.buffer.specs.Wrote.{Wrote};
-ghost use Rattle.host_writer.specs.Names.{name_at};
 
-use buffer::{put_byte, put_text};
+use buffer::put_word;
 use command::{AxisSetting, DeviceSetting, Setting};
 
-// The place of a setting's name among all names.
-fn place_of(s: Setting) -> usize
-    ensures { name_at result ≡ (about s).name }
+// A setting's name.
+#[tactic(auto, unfolding(laws::specs::Text::text, command::specs::Settings::name_of))]
+fn name(s: Setting) -> &'static [u8]
+    ensures { result.now ≡ name_of s }
 {
     match s {
         Setting::OfAxis(a) => match a {
-            AxisSetting::Pos => 0,
-            AxisSetting::LimitMin => 1,
-            AxisSetting::LimitMax => 2,
-            AxisSetting::MaxSpeed => 3,
-            AxisSetting::Accel => 4,
-            AxisSetting::DriverCurrentMax => 5,
-            AxisSetting::DriverCurrentRun => 6,
-            AxisSetting::DriverCurrentHold => 7,
-            AxisSetting::DriverDir => 8,
-            AxisSetting::EncoderIndexCount => 9,
+            AxisSetting::Pos => b"pos",
+            AxisSetting::LimitMin => b"limit.min",
+            AxisSetting::LimitMax => b"limit.max",
+            AxisSetting::MaxSpeed => b"maxspeed",
+            AxisSetting::Accel => b"accel",
+            AxisSetting::DriverCurrentMax => b"driver.current.max",
+            AxisSetting::DriverCurrentRun => b"driver.current.run",
+            AxisSetting::DriverCurrentHold => b"driver.current.hold",
+            AxisSetting::DriverDir => b"driver.dir",
+            AxisSetting::EncoderIndexCount => b"encoder.index.count",
         },
         Setting::OfDevice(d) => match d {
-            DeviceSetting::CommAddress => 10,
-            DeviceSetting::CommAlert => 11,
-            DeviceSetting::CommChecksum => 12,
-            DeviceSetting::SystemAccess => 13,
-            DeviceSetting::DeviceId => 14,
-            DeviceSetting::SystemAxisCount => 15,
+            DeviceSetting::CommAddress => b"comm.address",
+            DeviceSetting::CommAlert => b"comm.alert",
+            DeviceSetting::CommChecksum => b"comm.checksum",
+            DeviceSetting::SystemAccess => b"system.access",
+            DeviceSetting::DeviceId => b"deviceid",
+            DeviceSetting::SystemAxisCount => b"system.axiscount",
         },
     }
-}
-
-pub fn put_word(buf: &mut [u8], at: usize, w: &[u8]) -> usize
-    ensures { Wrote buf.old at (space ∷ w.now) buf.new result }
-{
-    let next = put_byte(buf, at, b' ');
-    put_text(buf, next, w)
 }
 
 pub fn put_setting(buf: &mut [u8], at: usize, s: Setting) -> usize
     ensures { Wrote buf.old at (space ∷ name_of s) buf.new result }
 {
-    let name = words::nth_word(
-        b"pos limit.min limit.max maxspeed accel \
-          driver.current.max driver.current.run driver.current.hold driver.dir \
-          encoder.index.count \
-          comm.address comm.alert comm.checksum system.access deviceid system.axiscount",
-        place_of(s),
-    );
-    put_word(buf, at, name)
+    put_word(buf, at, name(s))
 }
 
 pub fn put_message(buf: &mut [u8], at: usize, message: &[u8]) -> usize

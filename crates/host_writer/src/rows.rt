@@ -8,8 +8,8 @@ ghost use Rattle.command.specs.Commands.{command_words};
 ghost use Rattle.buffer.specs.Wrote.{Wrote};
 ghost use Rattle.host_writer.specs.Rows.{row_of, words_for, filled_row};
 
-use crate::names::{put_message, put_setting, put_word};
-use buffer::put_numbered;
+use crate::names::{put_message, put_setting};
+use buffer::{put_numbered, put_word};
 use command::Command;
 use command::forms::Form;
 

@@ -79,15 +79,15 @@ pub echo_some : (ws : List (List ℕ)) {w : List ℕ} {vs : List (List ℕ)} →
 unfolding echoed
 echo_some ws {w} {vs} e = rw e (spaced_trail w (take 16 vs))
 
-pub echo_turn : (left : ℕ) → 0 < left → {ws : List (List ℕ)} {w : List ℕ} {vs : List (List ℕ)} → ws ≡ w ∷ vs
-    → {b : List ℕ} {at : ℕ} {whole c d : List ℕ} {r q : ℕ} → Writing b at whole (take left ws) c r
-    → Wrote c r (space ∷ w) d q → Writing b at whole (take (left - 1) vs) d q
-echo_turn zero z e p v = absurd (omega arith)
-echo_turn (suc left) z e p v = let n : suc left - 1 ≡ left = omega arith in rw n (writing_more (rw e at p) v)
+module _ (i : ℕ) where
+  pub echo_turn : i < 16 → {ws : List (List ℕ)} {w : List ℕ} {vs : List (List ℕ)} → ws ≡ w ∷ vs
+      → {b : List ℕ} {at : ℕ} {whole c d : List ℕ} {r q : ℕ} → Writing b at whole (take (16 - i) ws) c r
+      → Wrote c r (space ∷ w) d q → Writing b at whole (take (16 - (i + 1)) vs) d q
+  echo_turn h e p v = let n : 16 - i ≡ suc (16 - (i + 1)) = omega arith in writing_more (rw (n, e) at p) v
 
--- no word is left, or none may be written
-pub echo_end : (left : ℕ) (ws : List (List ℕ)) → ws ≡ [] → take left ws ≡ []
-echo_end left ws e = rw e (take_all left [] (omega arith))
+  -- no word is left, or none may be written
+  pub echo_end : (ws : List (List ℕ)) → ws ≡ [] → take (16 - i) ws ≡ []
+  echo_end ws e = rw e (take_all (16 - i) [] (omega arith))
 
-pub echo_full : (left : ℕ) (ws : List (List ℕ)) → left ≤ 0 → take left ws ≡ []
-echo_full left ws h = let z : left ≡ 0 = omega arith in rw z
+  pub echo_full : (ws : List (List ℕ)) → 16 ≤ i → take (16 - i) ws ≡ []
+  echo_full ws h = let z : 16 - i ≡ 0 = omega arith in rw z

@@ -16,18 +16,8 @@ use Rattle.numbers.specs.Decimal.{decimal}
 use Rattle.buffer.specs.Wrote.{Wrote}
 use Rattle.buffer.proofs.Wrote.{◌▸◌, wrote_none}
 use Rattle.reply.specs.Data.{values}
-use Rattle.reply.specs.Told.{four_of, listed_of, carried}
-use Rattle.reply.specs.declared.told.Listed.{Listed}
+use Rattle.reply.specs.Told.{carried}
 use Rattle.reply.proofs.Lists.{values_first, values_next}
-
--- ---- the fourth value is that of every place from 3 on
-pub pick_rest : (v : Listed) (i : ℕ) → (i ≡ 0 → ⊥) → (i ≡ 1 → ⊥) → (i ≡ 2 → ⊥) → v.fourth ≡ get_or (four_of v) i v.fourth
-unfolding four_of
-pick_rest v zero a b c = absurd (a refl)
-pick_rest v (suc zero) a b c = absurd (b refl)
-pick_rest v (suc (suc zero)) a b c = absurd (c refl)
-pick_rest v (suc (suc (suc zero))) a b c = refl
-pick_rest v (suc (suc (suc (suc i)))) a b c = refl
 
 -- ---- the parking state is a digit
 pub parked_is : (p : Bool) → (48 + bool_byte p) ∷ [] ≡ cond p (text "1") (text "0")
@@ -35,41 +25,29 @@ unfolding text
 parked_is true = refl
 parked_is false = refl
 
--- ---- the values that are listed: `many` of the four from the place `from` on, both cut at the fourth
-pub listed_start : (b : List ℕ) (at : ℕ) → Wrote b at (values []) b at
+-- ---- values one behind the other
+pub values_start : (b : List ℕ) (at : ℕ) → Wrote b at (values []) b at
 unfolding values spaced
-listed_start b at = wrote_none b at
+values_start b at = wrote_none b at
 
-module _ (v : Listed) (from many : ℕ) (f : from ≡ min v.from 4) (m : many ≡ min v.many (4 - from)) where
-  clipped : listed_of v ≡ take many (drop from (four_of v))
-  unfolding listed_of four_of
-  clipped = rw (m, f) (part_clip v.from v.many (four_of v))
+-- a turn of the loop: the value at the place is the first, or stands behind a space
+module _ (ns : List Number) (i : ℕ) (z : Number) (h : i < length ns) where
+  abbrev value : Number
+  value = get_or ns i z
 
-  size : length (listed_of v) ≡ many
-  unfolding four_of
-  size = rw clipped (length_part (four_of v) from many (omega arith))
+  one_more : take (i + 1) ns ≡ take i ns ++ (value ∷ [])
+  one_more = rw (add-one, take-suc ns i z h)
 
-  value_at : (i : ℕ) → i < many → get_or (listed_of v) i v.fourth ≡ get_or (four_of v) (from + i) v.fourth
-  value_at i h = rw clipped (get_d_part (four_of v) from many i v.fourth h)
+  so_far : length (take i ns) ≡ i
+  so_far = length-take i ns ∙ omega arith
 
-  pub listed_end : (i : ℕ) → many ≤ i → take i (listed_of v) ≡ listed_of v
-  listed_end i h = take_all i (listed_of v) (omega (arith, size))
+  module _ {b : List ℕ} {at : ℕ} {c d e : List ℕ} {r s t : ℕ} (p : Wrote b at (values (take i ns)) c r) where
+    pub values_more : 0 < i → {g : List ℕ} {n : ℕ} → Wrote c r (space ∷ []) g n → d ≡ g → s ≡ n → Wrote d s (decimal value.0) e t
+        → Wrote b at (values (take (i + 1) ns)) e t
+    values_more q u y k w = rw (one_more, ← values_next (take i ns) value (omega (arith, so_far))) (p ▸ u ▸ (rw (y, k) at w))
 
-  -- a turn of the loop: the value x is the first, or stands behind a space
-  module _ (i : ℕ) (x : Number) (h : i < many) (q : x ≡ get_or (four_of v) (from + i) v.fourth) where
-    one_more : take (i + 1) (listed_of v) ≡ take i (listed_of v) ++ (x ∷ [])
-    one_more = rw (add-one, take-suc (listed_of v) i v.fourth (omega (arith, size)), value_at i h, ← q)
-
-    so_far : length (take i (listed_of v)) ≡ i
-    so_far = length-take i (listed_of v) ∙ omega (arith, size)
-
-    module _ {b : List ℕ} {at : ℕ} {c d e : List ℕ} {r s t : ℕ} (p : Wrote b at (values (take i (listed_of v))) c r) where
-      pub listed_next : 0 < i → {g : List ℕ} {n : ℕ} → Wrote c r (space ∷ []) g n → d ≡ g → s ≡ n → Wrote d s (decimal x.0) e t
-          → Wrote b at (values (take (i + 1) (listed_of v))) e t
-      listed_next z u y k w = rw (one_more, ← values_next (take i (listed_of v)) x (omega (arith, so_far))) (p ▸ u ▸ (rw (y, k) at w))
-
-      pub listed_first : i ≤ 0 → d ≡ c → s ≡ r → Wrote d s (decimal x.0) e t → Wrote b at (values (take (i + 1) (listed_of v))) e t
-      listed_first z y k w = rw (one_more, ← values_first (take i (listed_of v)) x (omega (arith, so_far))) (p ▸ (rw (y, k) at w))
+    pub values_one : i ≤ 0 → d ≡ c → s ≡ r → Wrote d s (decimal value.0) e t → Wrote b at (values (take (i + 1) ns)) e t
+    values_one q y k w = rw (one_more, ← values_first (take i ns) value (omega (arith, so_far))) (p ▸ (rw (y, k) at w))
 
 -- ---- the part of a line: a part of what stands before a place is a part of the whole
 before_place : (i n e : ℕ) (l : List ℕ) → i + n ≤ e → take n (drop i (take e l)) ≡ take n (drop i l)

@@ -26,11 +26,6 @@ pub highest_is : (m : ℕ) → warning_at (first (bits 8 m)) ≡ highest m
 unfolding highest warnings_in warning_at
 highest_is m = sym (warnings_highest m (text "--"))
 
--- a bool as a number
-pub bit_small : (b : Bool) → bool_byte b ≤ 1
-bit_small true = omega arith
-bit_small false = omega arith
-
 -- a word behind a space, and status with a space on either side
 pub verdict_is : (ok : Bool) → cond ok (text " OK") (text " RJ") ≡ trail (verdict ok ∷ [])
 unfolding verdict text trail
@@ -85,28 +80,6 @@ info_is address axis t = ap (λ (l : List ℕ). 35 ∷ l) (body_front address ax
 pub body_is : (h : Head) (words : List ℕ) → body h (text "") ++ words ≡ body h words
 unfolding body spaced text
 body_is h words = simp append_assoc
-
--- what stands between the first byte and a place, as the code cuts it out
-pub between : (b : List ℕ) (at e f : ℕ) → e ≡ min at (length b) → f ≡ min 1 e → take (e - f) (drop f b) ≡ drop 1 (take at b)
-between [] at e f p q =
-    let x : e ≡ 0 = omega arith in
-    let y : f ≡ 0 = omega arith in
-    rw (x, y) (simp take-nil)
-between (c ∷ b) zero e f p q =
-    let x : e ≡ 0 = omega arith in
-    let y : f ≡ 0 = omega arith in
-    rw (x, y)
-between (c ∷ b) (suc at) e f p q =
-    let y : f ≡ 1 = omega arith in
-    let z : e - 1 ≡ min at (length b) = omega arith in
-    rw (y, z) (least at b)
-  where
-    least : (k : ℕ) (l : List ℕ) → take (min k (length l)) l ≡ take k l
-    least k l =
-        ⊎_elim (λ (h : length l < k). let m : min k (length l) ≡ length l = omega arith in
-        rw m (take_all (length l) l (omega arith) ∙ sym (take_all k l (omega arith))))
-        (λ h. let m : min k (length l) ≡ k = omega arith in rw m)
-        (lt_or_le (length l) k)
 
 pub sum_wanted : (wanted : Bool) (s : List ℕ) → wanted ≡ true → sum_text wanted s ≡ text ":" ++ hex_pair (checksum s)
 unfolding sum_text

@@ -10,13 +10,9 @@ use Rattle.reply.specs.declared.told.Listed.{Listed}
 use Rattle.reply.specs.declared.told.Told.{Told}
 use Rattle.reply.specs.declared.told.Told.TheVariants.{Nought, One, Values, Active, Parked, Words, Name, Info}
 
--- the values of the four axes
-unfoldable pub four_of : Listed → List Number
-four_of v = v.first ∷ v.second ∷ v.third ∷ v.fourth ∷ []
-
--- those that are listed: "Values for axis 0 are listed from axis 1"
-unfoldable pub listed_of : Listed → List Number
-listed_of v = take v.many (drop v.from (four_of v))
+-- the values of the four axes that are listed: "Values for axis 0 are listed from axis 1"
+abbrev pub listed_of : Listed → List Number
+listed_of v = take v.many (drop v.from v.values)
 
 -- the bytes of a line from a place up to another
 unfoldable pub carried : List ℕ → ℕ → ℕ → List ℕ

@@ -10,10 +10,9 @@ ghost use Rattle.buffer.specs.Wrote.{Wrote};
 ghost use Rattle.reply.specs.Help.{help_text};
 ghost use Rattle.reply.specs.Reply.{status, highest, body_of, body, alert_body, info_body, ending};
 
-use crate::data::put_warning;
+use crate::data::warning_name;
 use crate::help::put_help;
 use buffer::{put_byte, put_either, put_number, put_pair, put_text, put_two};
-use units::lesser;
 
 // No reply is longer, so that a buffer of this length has room for each.
 pub const LONGEST_REPLY: usize = 96;
@@ -46,7 +45,7 @@ fn put_state(buf: &mut [u8], at: usize, busy: bool, warnings: u32) -> usize
     ensures { Wrote buf.old at (trail (status busy ∷ highest warnings ∷ [])) buf.new result }
 {
     let flag = put_either(buf, at, busy, b" BUSY ", b" IDLE ");
-    put_warning(buf, flag, flags::highest(warnings))
+    put_text(buf, flag, warning_name(flags::highest(warnings)))
 }
 
 // A reply up to the space before its data.
@@ -79,9 +78,8 @@ pub fn put_info(buf: &mut [u8], at: usize, address: u64, place: usize) -> usize
 fn summed(buf: &[u8], at: usize) -> u8
     ensures { result ≡ checksum (drop 1 (take at buf.now)) }
 {
-    let end = lesser(at, buf.len());
-    let from = lesser(1, end);
-    numbers::checksum(&buf[from..end])
+    let end = at.min(buf.len());
+    numbers::checksum(&buf[end.min(1)..end])
 }
 
 // That checksum behind a colon, if it is wanted.

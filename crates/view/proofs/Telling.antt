@@ -23,8 +23,8 @@ use Rattle.device.specs.Record.{many, axes_of}
 use Rattle.device.proofs.Stretches.{stretch_axes}
 use Rattle.reply.specs.Data.{values}
 use Rattle.reply.specs.declared.told.Listed.{Listed}
-use Rattle.reply.specs.Told.{four_of, listed_of, carried, told_text, informs}
-use Rattle.view.specs.View.{value_in, values_of, axis_at, listed_for}
+use Rattle.reply.specs.Told.{listed_of, carried, told_text, informs}
+use Rattle.view.specs.View.{value_in, values_of, listed_for}
 use Rattle.view.specs.Data.{setting_data, parked_data, text_of, setting_told, told_of}
 use Rattle.view.specs.declared.Value.{Value}
 
@@ -42,48 +42,31 @@ map_part f zero n xs = map_take f n xs
 map_part f (suc i) n [] = map_take f n []
 map_part f (suc i) n (x ∷ xs) = map_part f i n xs
 
-map_four : {X Y : Type 0} (f : X → Y) (xs : List X) (d : X) → length xs ≡ 4
-    → f (get_or xs 0 d) ∷ f (get_or xs 1 d) ∷ f (get_or xs 2 d) ∷ f (get_or xs 3 d) ∷ [] ≡ map f xs
-map_four f [] d h = absurd (omega arith)
-map_four f (a ∷ []) d h = absurd (omega arith)
-map_four f (a ∷ b ∷ []) d h = absurd (omega arith)
-map_four f (a ∷ b ∷ c ∷ []) d h = absurd (omega arith)
-map_four f (a ∷ b ∷ c ∷ e ∷ []) d h = refl
-map_four f (a ∷ b ∷ c ∷ e ∷ g ∷ xs) d h = absurd (omega arith)
-
--- what stands at a place that is there, whatever would stand elsewhere
-there : {X : Type 0} (xs : List X) (i : ℕ) (d e : X) → i < length xs → get_or xs i d ≡ get_or xs i e
-there [] i d e h = absurd (omega arith)
-there (x ∷ xs) zero d e h = refl
-there (x ∷ xs) (suc i) d e h = there xs i d e (omega arith)
-
-abbrev listed : ℕ → ℕ → Number → Number → Number → Number → Listed
-listed from many a b c e = record { from = from; many = many; first = a; second = b; third = c; fourth = e }
+-- what a function makes of four elements, each at its place
+four_places : {X Y : Type 0} (f : X → Y) (xs : List X) (a b c e : X) → length xs ≡ 4
+    → f (get_or xs 0 a) ∷ f (get_or xs 1 b) ∷ f (get_or xs 2 c) ∷ f (get_or xs 3 e) ∷ [] ≡ map f xs
+four_places f [] a b c e h = absurd (omega arith)
+four_places f (w ∷ []) a b c e h = absurd (omega arith)
+four_places f (w ∷ x ∷ []) a b c e h = absurd (omega arith)
+four_places f (w ∷ x ∷ y ∷ []) a b c e h = absurd (omega arith)
+four_places f (w ∷ x ∷ y ∷ z ∷ []) a b c e h = refl
+four_places f (w ∷ x ∷ y ∷ z ∷ v ∷ xs) a b c e h = absurd (omega arith)
 
 module _ (d : Device) (k : ℕ) (four : length d.axes ≡ 4) where
   -- "Values for axis 0 are listed from axis 1"
   pub listed_values : (v : Value) → listed_of (listed_for v d k) ≡ values_of v d k
-  unfolding listed_of four_of listed_for axis_at values_of axes_of
+  unfolding listed_for values_of axes_of
   listed_values v =
       let p = stretch_of (many d k) k in
-      ap (λ (l : List _). take p.many (drop p.from l)) (map_four (value_in v) d.axes fresh_axis four)
-      ∙ map_part (value_in v) p.from p.many d.axes
-      ∙ ap (map (value_in v)) (stretch_axes d.axes (many d k) k p four refl)
+      map_part (value_in v) p.from p.many d.axes ∙ ap (map (value_in v)) (stretch_axes d.axes (many d k) k p four refl)
 
   -- what the code lists: the four values, each of the axis at its place
-  module _ (v : Value) where
-    at_place : (i : ℕ) (w : Axis) (n : Number) → i < 4 → n ≡ value_in v (get_or d.axes i w) → n ≡ value_in v (axis_at d i)
-    unfolding axis_at
-    at_place i w n h e = e ∙ ap (value_in v) (there d.axes i w fresh_axis (omega arith))
-
-    pub listed_is : (p : Stretch) (w x y z : Axis) (a b c e : Number) → p ≡ stretch_of (many d k) k
-        → a ≡ value_in v (get_or d.axes 0 w) → b ≡ value_in v (get_or d.axes 1 x)
-        → c ≡ value_in v (get_or d.axes 2 y) → e ≡ value_in v (get_or d.axes 3 z)
-        → listed p.from p.many a b c e ≡ listed_for v d k
-    unfolding listed_for
-    listed_is p w x y z a b c e q f g h i =
-        rw (q, at_place 0 w a (omega arith) f, at_place 1 x b (omega arith) g)
-        (rw (at_place 2 y c (omega arith) h, at_place 3 z e (omega arith) i))
+  pub listed_is : (v : Value) (p : Stretch) (w x y z : Axis) {a b c e : Number} → p ≡ stretch_of (many d k) k
+      → a ≡ value_in v (get_or d.axes 0 w) → b ≡ value_in v (get_or d.axes 1 x)
+      → c ≡ value_in v (get_or d.axes 2 y) → e ≡ value_in v (get_or d.axes 3 z)
+      → record { from = p.from; many = p.many; values = a ∷ b ∷ c ∷ e ∷ [] } ≡ listed_for v d k
+  unfolding listed_for
+  listed_is v p w x y z q f g h i = rw (q, f, g, h, i) (rw (four_places (value_in v) d.axes w x y z four))
 
   listed_text : (v : Value) → values (listed_of (listed_for v d k)) ≡ values (values_of v d k)
   listed_text v = ap values (listed_values v)

@@ -51,17 +51,6 @@ value_in Pos a = number a.settings.pos.0
 unfoldable pub values_of : Value → Device → ℕ → List Number
 values_of v d k = map (value_in v) (axes_of d k)
 
--- the axis at a place from 0, of the four that there are
-unfoldable pub axis_at : Device → ℕ → Axis
-axis_at d i = get_or d.axes i fresh_axis
-
 -- those values as they are told: of all four places, and which of them the number k means
 unfoldable pub listed_for : Value → Device → ℕ → Listed
-listed_for v d k = let p = stretch_of (many d k) k in record {
-  from = p.from;
-  many = p.many;
-  first = value_in v (axis_at d 0);
-  second = value_in v (axis_at d 1);
-  third = value_in v (axis_at d 2);
-  fourth = value_in v (axis_at d 3);
-}
+listed_for v d k = let p = stretch_of (many d k) k in record { from = p.from; many = p.many; values = map (value_in v) d.axes }

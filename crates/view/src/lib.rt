@@ -55,15 +55,16 @@ fn value_of(a: Axis, v: Value) -> Number
 pub(crate) fn listed(d: Device, k: u64, v: Value) -> Listed
     ensures { result ≡ listed_for v d k }
 {
-    let axes = d.axes;
     let p = d.stretch(k);
     Listed {
         from: p.from,
         many: p.many,
-        first: value_of(axes[0], v),
-        second: value_of(axes[1], v),
-        third: value_of(axes[2], v),
-        fourth: value_of(axes[3], v),
+        values: [
+            value_of(d.axes[0], v),
+            value_of(d.axes[1], v),
+            value_of(d.axes[2], v),
+            value_of(d.axes[3], v),
+        ],
     }
 }
 

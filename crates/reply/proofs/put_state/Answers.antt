@@ -7,4 +7,4 @@ use Rattle.reply.proofs.put_state.Goals as goal
 pub returns : goal.returns
 unfolding text
 returns c =
-    rw (← state_is _ _, ← highest_is _, ← c.highest.ensures) (c.put_either-flag.ensures ▸ c.put_warning.ensures)
+    rw (← state_is _ _, ← highest_is _, ← c.highest.ensures, ← c.warning_name.ensures) (c.put_either-flag.ensures ▸ c.put_text.ensures)

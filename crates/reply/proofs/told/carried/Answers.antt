@@ -3,4 +3,4 @@ use Rattle.reply.proofs.Telling.{carried_part}
 use Rattle.reply.proofs.told.carried.Goals as goal
 
 pub returns : goal.returns
-returns c = carried_part _ _ _ _ _ c.lesser-stop.ensures c.lesser-start.ensures
+returns c = carried_part _ _ _ _ _ c.min-stop.ensures c.min.ensures

@@ -1,7 +1,0 @@
--- `host_writer::names::put_word` meets its contract: two writes, one behind the other.
-use Rattle.buffer.proofs.Wrote.{◌▸◌}
-use Rattle.host_writer.proofs.names.put_word.Goals as goal
-
-pub returns : goal.returns
-returns c =
-    c.put_byte-next.ensures ▸ c.put_text.ensures
