@@ -19,7 +19,7 @@ use Rattle.command.specs.declared.forms.Form.{Form}
 use Rattle.buffer.specs.Wrote.{Wrote}
 use Rattle.buffer.proofs.Wrote.{◌▸◌}
 use Rattle.reply.proofs.Writing.{Writing, writing_end}
-use Rattle.host_writer.specs.Rows.{lengthen, rows, row_of, carried, words_for, filled_row}
+use Rattle.host_writer.specs.Rows.{carried, words_for, filled_row}
 
 -- at the end of a text no word is left
 pub no_words : (s : List ℕ) (at : ℕ) → length s ≤ at → cut (drop at s) ≡ []
@@ -39,41 +39,6 @@ writing_words vs {ws} p v =
       so = append_assoc p.text (trail vs) (trail ws) ∙ ap (λ (t : List ℕ). p.text ++ t) (sym (trail_append vs ws)) ∙ p.so;
     }
 
--- ---- the row at a place, word by word
-row_none : (k : ℕ) → row_of k [] ≡ []
-unfolding row_of rows
-row_none zero = refl
-row_none (suc k) = refl
-
-module _ (w : List ℕ) (ws : List (List ℕ)) where
-  row_ends : same w (text ";") ≡ true → row_of 0 (w ∷ ws) ≡ []
-  unfolding row_of rows
-  row_ends h = rw h
-
-  row_next : same w (text ";") ≡ true → (k : ℕ) → (k ≡ 0 → ⊥) → row_of k (w ∷ ws) ≡ row_of (k - 1) ws
-  unfolding row_of rows
-  row_next h zero z = absurd (z refl)
-  row_next h (suc k) z = let e : suc k - 1 ≡ k = omega arith in rw (h, e)
-
-  first_is : (rs : List (List (List ℕ))) → get_or (lengthen w rs) 0 [] ≡ w ∷ get_or rs 0 []
-  unfolding lengthen
-  first_is [] = refl
-  first_is (r ∷ rs) = refl
-
-  others_are : (rs : List (List (List ℕ))) (k : ℕ) → get_or (lengthen w rs) (suc k) [] ≡ get_or rs (suc k) []
-  unfolding lengthen
-  others_are [] k = refl
-  others_are (r ∷ rs) k = refl
-
-  row_more : same w (text ";") ≡ false → row_of 0 (w ∷ ws) ≡ w ∷ row_of 0 ws
-  unfolding row_of rows
-  row_more h = rw h (first_is (rows ws))
-
-  row_later : same w (text ";") ≡ false → (k : ℕ) → (k ≡ 0 → ⊥) → row_of k (w ∷ ws) ≡ row_of k ws
-  unfolding row_of rows
-  row_later h zero z = absurd (z refl)
-  row_later h (suc k) z = rw h (others_are (rows ws) k)
-
 -- a place that is none of the first four, as the code has it
 pub behind_names : {k : ℕ} (r : Option ℕ) → (((Unit {0} × (k ≡ 0 → ⊥)) × (k ≡ 1 → ⊥)) × (k ≡ 2 → ⊥)) × (k ≡ 3 → ⊥) → r ≡ Some k → 4 ≤ unwrap_or r 4
 behind_names r n e = rw e (omega (arith, n.1, n.0.1, n.0.0.1, n.0.0.0.1))
@@ -87,28 +52,14 @@ module _ (f : Form) (es : List (List ℕ)) (w : List ℕ) (r : Option ℕ) (e : 
   pub stands_itself : 4 ≤ unwrap_or r 4 → trail (w ∷ []) ≡ trail (words_for f es w)
   stands_itself h = ap trail (past_table (w ∷ []) (carried f es) (unwrap_or r 4) h) ∙ stands
 
--- ---- the turns of the walk, at a word w of the words ws, with k rows before the one that is written
-module _ {b : List ℕ} {at : ℕ} {whole : List ℕ} (f : Form) (es : List (List ℕ)) (k : ℕ) {ws : List (List ℕ)} {c : List ℕ} {r : ℕ}
-    (p : Writing b at whole (filled_row f es (row_of k ws)) c r) where
+-- ---- the turns of the walk, at a word w of the words ws
+module _ {b : List ℕ} {at : ℕ} {whole : List ℕ} (f : Form) (es : List (List ℕ)) {ws : List (List ℕ)} {c : List ℕ} {r : ℕ}
+    (p : Writing b at whole (filled_row f es ws) c r) where
   pub walk_none : ws ≡ [] → Wrote b at whole c r
   unfolding filled_row
-  walk_none e = writing_end (rw (e, row_none k) at p)
+  walk_none e = writing_end (rw e at p)
 
-  module _ {w : List ℕ} {vs : List (List ℕ)} (e : ws ≡ w ∷ vs) {t : Bool} (q : t ≡ same w (text ";")) where
-    pub walk_ends : t ≡ true → k ≡ 0 → Wrote b at whole c r
-    unfolding filled_row
-    walk_ends h z = writing_end (rw (e, z, row_ends w vs (sym q ∙ h)) at p)
-
-    module _ {d : List ℕ} {n j : ℕ} where
-      pub walk_next : t ≡ true → (k ≡ 0 → ⊥) → d ≡ c → n ≡ r → j ≡ k - 1 → Writing b at whole (filled_row f es (row_of j vs)) d n
-      walk_next h z x y i = rw (x, y, i, ← row_next w vs (sym q ∙ h) k z, ← e) p
-
-      pub walk_later : t ≡ false → (k ≡ 0 → ⊥) → d ≡ c → n ≡ r → j ≡ k → Writing b at whole (filled_row f es (row_of j vs)) d n
-      walk_later h z x y i = rw (x, y, i, ← row_later w vs (sym q ∙ h) k z, ← e) p
-
-      pub walk_more : t ≡ false → k ≡ 0 → {g : List ℕ} {m : ℕ} → Wrote c r (trail (words_for f es w)) g m → d ≡ g → n ≡ m → j ≡ k
-          → Writing b at whole (filled_row f es (row_of j vs)) d n
-      unfolding filled_row
-      walk_more h z v x y i =
-          let row : row_of k ws ≡ w ∷ row_of 0 vs = rw (e, z) (row_more w vs (sym q ∙ h)) in
-          rw (x, y, i, z) (writing_words (words_for f es w) (rw row at p) v)
+  pub walk_more : {w : List ℕ} {vs : List (List ℕ)} → ws ≡ w ∷ vs → {d : List ℕ} {n : ℕ} → Wrote c r (trail (words_for f es w)) d n
+      → Writing b at whole (filled_row f es vs) d n
+  unfolding filled_row
+  walk_more {w} {vs} e v = writing_words (words_for f es w) (rw e at p) v

@@ -1,23 +1,46 @@
-// Writes the words of a command into a lent buffer, each behind a space: one walk over the table of commands as a text.
-// specs/Rows.antt says how that text is read.
-ghost use Rattle.std.specs.Prelude.{◌≡◌};
-ghost use Rattle.laws.specs.Text.{text, same};
+// Writes the words of a command into a lent buffer, each behind a space: those of its row in the table of commands.
+// specs/Rows.antt says how a row is read.
+ghost use Rattle.std.specs.Prelude.{◌≡◌, List, ℕ};
 ghost use Rattle.laws.proofs.Spaced.{trail};
 ghost use Rattle.words.specs.Cutting.{cut};
 ghost use Rattle.command.specs.Commands.{command_words};
 ghost use Rattle.buffer.specs.Wrote.{Wrote};
-ghost use Rattle.host_writer.specs.Rows.{row_of, words_for, filled_row};
+ghost use Rattle.host_writer.specs.Rows.{words_for, filled_row, row_words};
 
 use crate::names::{put_message, put_setting};
 use buffer::{put_numbered, put_word};
 use command::Command;
 use command::forms::Form;
 
-// The word between two rows.
-fn ends_row(w: &[u8]) -> bool
-    ensures { result ≡ same w.now (text ";") }
+// Document 01's table of commands in its own notation and order; the first row is the one without words.
+#[tactic(auto, unfolding(laws::specs::Text::text, laws::specs::Text::same, words::specs::Cutting::cut, words::specs::Cutting::is_space, words::specs::Cutting::no_space, words::specs::Cutting::grow_at, words::specs::Cutting::words_from, words::specs::Find::meaning_of, crate::specs::Rows::words_for, crate::specs::Rows::filled_row, crate::specs::Rows::row_words))]
+fn row(k: usize) -> &'static [u8]
+    ensures { (f : Form) (es : List (List ℕ)) → filled_row f es (cut result.now) ≡ row_words f es k }
 {
-    words::same_bytes(w, b";")
+    match k {
+        1 => b"home",
+        2 => b"stop",
+        3 => b"estop",
+        4 => b"move abs N",
+        5 => b"move rel N",
+        6 => b"move vel N",
+        7 => b"move min",
+        8 => b"move max",
+        9 => b"move stored N",
+        10 => b"get SETTING",
+        11 => b"set SETTING N",
+        12 => b"tools storepos N",
+        13 => b"tools storepos N P",
+        14 => b"tools storepos N current",
+        15 => b"warnings",
+        16 => b"warnings clear",
+        17 => b"tools parking state",
+        18 => b"tools parking park",
+        19 => b"tools parking unpark",
+        20 => b"tools echo WORDS",
+        21 => b"help commands",
+        _ => b"",
+    }
 }
 
 // What stands at a place of a row: what the command carries for it, or the word itself.
@@ -34,56 +57,27 @@ fn put_place(buf: &mut [u8], at: usize, w: &[u8], f: Form, message: &[u8]) -> us
     }
 }
 
-// The row of f, place by place: `before` is how many rows stand before it still.
-fn put_row(buf: &mut [u8], at: usize, rows: &[u8], f: Form, message: &[u8]) -> usize
-    ensures { Wrote buf.old at (trail (filled_row f (cut message.now) (row_of f.row (cut rows.now)))) buf.new result }
+// A row, place by place.
+fn put_row(buf: &mut [u8], at: usize, row: &[u8], f: Form, message: &[u8]) -> usize
+    ensures { Wrote buf.old at (trail (filled_row f (cut message.now) (cut row.now))) buf.new result }
 {
     let mut next = at;
     let mut place: usize = 0;
-    let mut before = f.row;
-    while place < rows.len() {
-        let w = words::first_word(rows, place);
-        if w.len() == 0 {
+    while place < row.len() {
+        let w = words::first_word(row, place);
+        if w.is_empty() {
             return next;
         }
-        if ends_row(w) {
-            if before == 0 {
-                return next;
-            }
-            before -= 1;
-        } else if before == 0 {
-            next = put_place(buf, next, w, f, message);
-        }
-        place = words::past_word(rows, place);
+        next = put_place(buf, next, w, f, message);
+        place = words::past_word(row, place);
     }
     next
 }
 
-// The text is document 01's table of commands in its own notation and order, a row behind each `;`; before the first is the row
-// without words. Proved of it: filled for any command, its rows are those of command/specs/Commands.
+// Proved of the rows: filled for any command, they are those of command/specs/Commands.
 pub fn put_command(buf: &mut [u8], at: usize, c: Command, message: &[u8]) -> usize
     ensures { Wrote buf.old at (trail (command_words c (cut message.now))) buf.new result }
 {
-    let rows = b"; home \
-          ; stop \
-          ; estop \
-          ; move abs N \
-          ; move rel N \
-          ; move vel N \
-          ; move min \
-          ; move max \
-          ; move stored N \
-          ; get SETTING \
-          ; set SETTING N \
-          ; tools storepos N \
-          ; tools storepos N P \
-          ; tools storepos N current \
-          ; warnings \
-          ; warnings clear \
-          ; tools parking state \
-          ; tools parking park \
-          ; tools parking unpark \
-          ; tools echo WORDS \
-          ; help commands";
-    put_row(buf, at, rows, c.form(), message)
+    let f = c.form();
+    put_row(buf, at, row(f.row), f, message)
 }

@@ -3,12 +3,12 @@ use lib.ListN.{length, drop}
 use Rattle.laws.proofs.Spaced.{trail}
 use Rattle.words.specs.Cutting.{cut}
 use Rattle.reply.proofs.Writing.{Writing}
-use Rattle.host_writer.specs.Rows.{row_of, filled_row}
+use Rattle.host_writer.specs.Rows.{filled_row}
 use Rattle.host_writer.proofs.rows.put_row.Given as goal
 
 abbrev pub invariant-loop-place : goal.invariant-loop-place
-invariant-loop-place l = Writing l.initial.buf l.at (trail (filled_row l.f (cut l.message) (row_of l.f.row (cut l.rows))))
-    (filled_row l.f (cut l.message) (row_of l.before (cut (drop l.place l.rows)))) l.buf l.next
+invariant-loop-place l = Writing l.initial.buf l.at (trail (filled_row l.f (cut l.message) (cut l.row)))
+    (filled_row l.f (cut l.message) (cut (drop l.place l.row))) l.buf l.next
 
 abbrev pub decreases-loop-place : goal.decreases-loop-place
-decreases-loop-place l = length (cut (drop l.place l.rows))
+decreases-loop-place l = length (cut (drop l.place l.row))
