@@ -1,16 +1,13 @@
 -- A chain that is held by value, place by place: the places that a line hears, and one record of them.
 -- Assumes nothing.
 use mathlib.Core.Path.{◌≡◌, refl, sym, ap, ◌∙◌}
-use mathlib.Core.Logic.{⊎_elim}
 use mathlib.Core.List.{List, [], ◌∷◌, ◌++◌}
 use Prim.Native.Nat.{ℕ, zero, suc, ◌<◌, min}
 use native.Mathlib.Omega.{arith}
-use lib.ListN.{length, take, drop, get_or, set, length-take, take-append-drop, drop_of_length-le}
+use lib.ListN.{length, take, drop, get_or, set, length-take, take-append-drop}
 use Rattle.laws.proofs.Answers.{one_answer}
-use Rattle.laws.proofs.Order.{lt_or_le}
 use Rattle.device.specs.declared.Device.{Device}
 use Rattle.chain.specs.Chain.{Chained}
-use Rattle.input.proofs.Prints.{first_bytes}
 use Rattle.chain_session.specs.declared.Cable.{Cable}
 use Rattle.chain_session.specs.declared.Heard.{Heard}
 use Rattle.chain_session.specs.Held.{records_of, holding, Hears}
@@ -35,14 +32,6 @@ holding_same c = ap (λ (ds : List Device). record { devices = ds; count = c.cou
 module _ (c : Cable) (full : length c.devices ≡ 16) {n : ℕ} (is : n ≡ min c.count 16) where
   same_count : n ≡ min c.count (length c.devices)
   same_count = is ∙ ap (min c.count) (sym full)
-
-  pub records_are : take n c.devices ≡ records_of c
-  records_are = first_bytes n c.count c.devices same_count
-
-  others_are : drop n c.devices ≡ drop c.count c.devices
-  others_are = ⊎_elim (λ h. let e : n ≡ c.count = omega (arith, same_count) in ap (λ (k : ℕ). drop k c.devices) e)
-      (λ h. drop_of_length-le c.devices {i = n} (omega (arith, same_count)) ∙ sym (drop_of_length-le c.devices h))
-      (lt_or_le c.count (length c.devices))
 
   pub records_count : length (records_of c) ≡ n
   records_count = length-take c.count c.devices ∙ sym same_count

@@ -1,3 +1,4 @@
+pub mod OwnArray
 pub mod Held
 pub mod Turns
 pub mod Room

@@ -3,10 +3,10 @@
 use mathlib.Core.Path.{◌≡◌, refl, sym, ap, ◌∙◌}
 use mathlib.Core.Bool.{Bool, true, false, cond}
 use mathlib.Core.List.{List, [], ◌++◌, append_assoc}
-use Prim.Native.Nat.{ℕ, ◌+◌, ◌-◌, ◌*◌, ◌<◌, ◌≤◌, min}
+use Prim.Native.Nat.{ℕ, ◌-◌, ◌*◌, ◌<◌, ◌≤◌, min}
 use native.Mathlib.Omega.{arith}
 use lib.Dec.{eqb, leb}
-use lib.ListN.{length, take, drop, get_or, set, replicate, length-append, take-append-drop}
+use lib.ListN.{length, take, get_or, set, replicate}
 use lib.Seq.{take_at, take_all}
 use Rattle.laws.specs.Text.{text}
 use borrow.Author.Tests.{le-leb, lt-leb}
@@ -38,12 +38,6 @@ unfolding answered
 answers_first n j x y =
     ap (λ (z : List ℕ). cond (eqb (length j) 0) (told (text "silent ") n) z)
     (ap (take (length j)) (append_assoc j x y) ∙ take_at j (x ++ y) (length j) refl ∙ sym (take_all (length j) j (omega arith)))
-
--- a buffer of which the first bytes were lent is as long as it was
-pub refilled : (k : ℕ) (zs b : List ℕ) → length b ≡ length (take k zs) → length zs ≡ length (b ++ drop k zs)
-refilled k zs b e =
-    ap length (sym (take-append-drop k zs)) ∙ length-append (take k zs) (drop k zs) ∙ ap (λ (m : ℕ). m + length (drop k zs)) (sym e)
-    ∙ sym (length-append b (drop k zs))
 
 -- ---- a line
 module _ (c : Cable) (full : length c.devices ≡ 16) {n : ℕ} (is : n ≡ min c.count 16) (p : List ℕ) {b o : List ℕ} {at r : ℕ} where

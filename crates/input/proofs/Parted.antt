@@ -3,26 +3,17 @@
 use mathlib.Core.Path.{◌≡◌, refl, sym, ap, ◌∙◌}
 use mathlib.Core.Bool.{Bool, true, false, cond}
 use mathlib.Core.List.{List, [], ◌∷◌, ◌++◌}
-use Prim.Native.Nat.{ℕ, zero, suc, min, ◌+◌, ◌-◌, ◌≤◌, ◌<◌}
+use Prim.Native.Nat.{ℕ, zero, suc, min, ◌+◌, ◌<◌}
 use native.Mathlib.Omega.{arith}
 use lib.Dec.{eqb, leb-suc-suc}
 use lib.ListN.{length, take, drop, length-drop}
-use lib.Seq.{take-append_seam, drop-append_seam, drop-drop}
+use lib.Seq.{take-append_seam, drop-append_seam}
 use borrow.Author.Tests.{le-leb}
 use Rattle.std.proofs.Common.{Option, None, Some, nat_eq, nat_lt, not, position, max}
 use Rattle.std.specs.List.{position_or_len, IsFirstMatchOrLen}
 use Rattle.laws.specs.Text.{LF}
 use Rattle.words.specs.Cutting.{grow}
 use Rattle.input.specs.Parts.{parts, first_part}
-
-pub part_le : (s : List ℕ) → first_part s ≤ length s
-unfolding first_part
-part_le [] = omega arith
-part_le (c ∷ s) = go (eqb c LF) (part_le s)
-  where
-    go : (b : Bool) → first_part s ≤ length s → cond b 1 (suc (first_part s)) ≤ suc (length s)
-    go true ih = omega arith
-    go false ih = omega arith
 
 -- a byte before a text whose first part is known
 grown : (c : ℕ) (t : List ℕ) (b : Bool) → parts t ≡ take (first_part t) t ∷ parts (drop (first_part t) t)
@@ -79,23 +70,6 @@ module _ (s : List ℕ) (at : ℕ) where
   part_whole e =
       let whole = ap (λ o. part_of o (length (drop at s))) e ∙ found (drop at s) in
       omega (arith, whole, length-drop at s)
-
--- ---- the part from a place inside
-module _ (s : List ℕ) (at : ℕ) {e : ℕ} (h : at < length s) (q : e ≡ at + first_part (drop at s)) where
-  left : 0 < length (drop at s)
-  left = rw length-drop (omega arith)
-
-  pub part_past : at < e
-  part_past = omega (arith, (parts_more (drop at s) left).0)
-
-  pub part_inside : e ≤ length s
-  part_inside = omega (arith, part_le (drop at s), length-drop at s)
-
-  pub part_first : parts (drop at s) ≡ take (e - at) (drop at s) ∷ parts (drop e s)
-  part_first =
-      let n : first_part (drop at s) ≡ e - at = omega arith in
-      let m : at + (e - at) ≡ e = omega (arith, part_past) in
-      (parts_more (drop at s) left).1 ∙ rw (n, drop-drop (e - at) at s, m)
 
 -- ---- the parts, as the library's `split_inclusive` gives them
 -- i is the place of the first LF, or the length
