@@ -19,6 +19,7 @@ fn content_end(line: &[u8]) -> usize
 }
 
 // Is e an end behind s: CR LF, or the checksum of s and CR LF?
+#[tactic(auto, unfolding(laws::specs::Text::text))]
 fn right_end(s: &[u8], e: &[u8]) -> bool
     ensures { result ≡ right_end s.now e.now }
 {
@@ -40,6 +41,7 @@ fn is_ended(line: &[u8], end: usize) -> bool
 }
 
 // The text from a place to the end.
+#[tactic(auto, unfolding(laws::specs::Text::text))]
 fn text_at(line: &[u8], at: usize, end: usize) -> Option<Text>
     ensures { result ≡ text_at line.now at end }
 {
@@ -66,6 +68,7 @@ fn reply_in(line: &[u8], end: usize) -> Option<Said>
     (a & b & c).then_some(Said::Reply(ok, state, data))
 }
 
+#[tactic(auto, unfolding(laws::specs::Text::text))]
 fn alert_in(line: &[u8], end: usize) -> Option<Said>
     ensures { result ≡ alert_in line.now end }
 {
@@ -74,6 +77,7 @@ fn alert_in(line: &[u8], end: usize) -> Option<Said>
     (space & (end == ALERT_END)).then_some(Said::Alert(state))
 }
 
+#[tactic(auto, unfolding(laws::specs::Text::text))]
 fn info_in(line: &[u8], end: usize) -> Option<Said>
     ensures { result ≡ info_in line.now end }
 {
@@ -98,6 +102,7 @@ fn said_in(line: &[u8], kind: Kind, end: usize) -> Option<Said>
     }
 }
 
+#[tactic(auto, unfolding(laws::specs::Refusals::first_of))]
 pub fn read_message(line: &[u8]) -> Option<Message>
     ensures read { result ≡ read_message line.now }
     ensures number { number_of result ≡ message_refusal line.now }

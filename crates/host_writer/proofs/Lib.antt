@@ -1,4 +1,3 @@
 pub mod RowTexts
 pub mod RowWalks
-pub mod Unfit
 pub mod LineTexts

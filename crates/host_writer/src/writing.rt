@@ -24,6 +24,7 @@ fn is_unfit(c: Command, message: &[u8]) -> bool
     d.barred | (words & !plain)
 }
 
+#[tactic(auto, unfolding(crate::specs::Writing::unspellable))]
 fn is_unspellable(address: u64, axis: u64, c: Command, message: &[u8]) -> bool
     ensures { result ≡ unspellable address axis c message.now }
 {

@@ -21,6 +21,7 @@ fn setting_told(d: Device, k: u64, s: Setting) -> Told
 
 // What is told of a command of this form for axis k. The record is the one before the command; the words of an echo stand in
 // the line from a place to another.
+#[tactic(auto, unfolding(crate::specs::View::warnings_of))]
 pub fn told(d: Device, k: u64, f: Form, x: Data, from: usize, end: usize) -> Told
     ensures told { result ≡ told_of d k f x from end }
     ensures places { length d.axes ≡ 4 }

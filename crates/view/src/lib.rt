@@ -20,6 +20,7 @@ pub enum Value {
     Pos,
 }
 
+#[tactic(auto, unfolding(crate::specs::View::shown_axis))]
 fn shown_axis(d: Device, k: u64) -> u64
     ensures { result ≡ shown_axis d k }
 {
@@ -27,6 +28,7 @@ fn shown_axis(d: Device, k: u64) -> u64
 }
 
 // What stands before the data.
+#[tactic(auto, unfolding(crate::specs::View::head_of, crate::specs::View::busy, crate::specs::View::warnings_of))]
 pub fn head(d: Device, k: u64, ok: bool) -> Head
     ensures { result ≡ head_of d k ok }
 {

@@ -57,6 +57,7 @@ fn two_of(tens: u64, ones: u64) -> Option<u64>
 }
 
 // The kind that a mark stands for.
+#[tactic(auto, unfolding(laws::specs::Text::text, laws::specs::Text::same, words::specs::Find::index, crate::specs::Reading::marks, crate::specs::Reading::kind_at))]
 fn kind_of(mark: u8) -> Option<Kind>
     ensures { result ≡ kind_of mark }
 {
