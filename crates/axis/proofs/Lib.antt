@@ -1,4 +1,3 @@
-pub mod Aim
 pub mod GoodStays
 pub mod MotorReports
 pub mod GoodUnderReports

@@ -53,8 +53,5 @@ pub fn after(a: Axis, c: AxisCommand) -> Axis
 pub fn unparks(c: AxisCommand) -> bool
     ensures { result ≡ unparksBy c }
 {
-    match c {
-        AxisCommand::Home => true,
-        _ => false,
-    }
+    matches!(c, AxisCommand::Home)
 }

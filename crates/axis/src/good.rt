@@ -4,7 +4,7 @@ ghost use Rattle.std.specs.Prelude.{◌≡◌};
 ghost use Rattle.laws.specs.Lists.{all};
 ghost use Rattle.axis.specs.Good.{good_position, good_motion, good_axis};
 
-use crate::{Axis, Motion, STORED};
+use crate::{Axis, Motion};
 use units::Position;
 
 impl Motion {
@@ -22,30 +22,17 @@ impl Motion {
 }
 
 // Is every stored position within ±1000000000?
-fn all_bounded(s: [Position; STORED]) -> bool
-    ensures { result ≡ all good_position s }
+fn all_bounded(stored: &[Position]) -> bool
+    ensures { result ≡ all good_position stored.now }
 {
-    let mut ok = true;
-    let mut i: usize = 0;
-    while i < STORED {
-        let p = s[i];
-        let q = p.bounded();
-        ok = ok & q;
-        i = i + 1;
-    }
-    ok
+    stored.iter().all(|p| p.bounded())
 }
 
 impl Axis {
+    #[tactic(auto, unfolding(crate::specs::Good::good_axis))]
     pub fn good(self) -> bool
         ensures { result ≡ good_axis self }
     {
-        let s = self.settings;
-        let p = self.stored;
-        let m = self.motion;
-        let a = s.good();
-        let b = all_bounded(p);
-        let c = m.good();
-        a & (b & c)
+        self.settings.good() && all_bounded(&self.stored) && self.motion.good()
     }
 }

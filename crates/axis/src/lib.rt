@@ -35,59 +35,37 @@ impl Motion {
     pub(crate) fn moving(self) -> bool
         ensures { result ≡ in_motion self }
     {
-        match self {
-            Motion::Idle => false,
-            Motion::Homing => true,
-            Motion::To(_) => true,
-            Motion::At(_) => true,
-            Motion::Stopping => true,
-        }
+        !matches!(self, Motion::Idle)
     }
 
     pub(crate) fn homing(self) -> bool
         ensures { result ≡ is_homing self }
     {
-        match self {
-            Motion::Idle => false,
-            Motion::Homing => true,
-            Motion::To(_) => false,
-            Motion::At(_) => false,
-            Motion::Stopping => false,
-        }
+        matches!(self, Motion::Homing)
     }
 }
 
 impl Axis {
-    pub(crate) fn with_settings(self, s: Settings) -> Axis
-        ensures { result ≡ with_settings s self }
+    pub(crate) fn with_settings(self, settings: Settings) -> Axis
+        ensures { result ≡ with_settings settings self }
     {
-        let mut a = self;
-        a.settings = s;
-        a
+        Axis { settings, ..self }
     }
 
-    pub(crate) fn with_motion(self, m: Motion) -> Axis
-        ensures { result ≡ with_motion m self }
+    pub(crate) fn with_motion(self, motion: Motion) -> Axis
+        ensures { result ≡ with_motion motion self }
     {
-        let s = self.settings;
-        let p = self.stored;
-        Axis {
-            settings: s,
-            motion: m,
-            reference: self.reference,
-            warnings: self.warnings,
-            stored: p,
-        }
+        Axis { motion, ..self }
     }
 
     pub fn moving(self) -> bool
         ensures { result ≡ moving self }
     {
-        let m = self.motion;
-        m.moving()
+        self.motion.moving()
     }
 
     // A moving axis is stopping, an idle one stays idle.
+    #[tactic(auto, unfolding(crate::specs::Record::stopped))]
     pub(crate) fn stopped(self) -> Axis
         ensures { result ≡ stopped self }
     {
@@ -98,17 +76,16 @@ impl Axis {
         }
     }
 
+    #[tactic(auto, unfolding(crate::specs::Record::fresh_axis))]
     pub fn fresh() -> Axis
         ensures { result ≡ fresh_axis }
     {
-        let settings = Settings::fresh();
-        let zero = Position(0);
         Axis {
-            settings,
+            settings: Settings::fresh(),
             motion: Motion::Idle,
             reference: false,
             warnings: 0,
-            stored: [zero; STORED],
+            stored: [Position(0); STORED],
         }
     }
 }

@@ -5,34 +5,31 @@ ghost use Rattle.flags.specs.Flags.{mask};
 ghost use Rattle.axis.specs.Warnings.{active as activeOf};
 ghost use Rattle.axis.specs.Moves.{moved as moved_to, store as store_at, cleared as clearedOf};
 
-use crate::{Axis, Motion, STORED};
+use crate::travel::is_place;
+use crate::{Axis, Motion};
 use command::Target;
-use units::{Number, Position, Reach};
+use units::{Number, Position};
 
 impl Axis {
     // To the target, if the axis may move there.
+    #[tactic(auto, unfolding(crate::specs::Aim::aim, crate::specs::Moves::moved))]
     pub(crate) fn moved(self, t: Target) -> Axis
         ensures { result ≡ moved_to t self }
     {
         match self.aim(t) {
-            Reach::At(p) => self.with_motion(Motion::To(p)),
-            Reach::Beyond => self,
+            Some(p) => self.with_motion(Motion::To(p)),
+            None => self,
         }
     }
 
     // With p under the number n, from 1 to 16.
+    #[tactic(auto, unfolding(crate::specs::Moves::store))]
     pub(crate) fn store(mut self, n: Number, p: Position) -> Axis
         ensures { result ≡ store_at n p self }
     {
-        let k = n.place();
-        if k < 1 {
-            return self;
+        if is_place(n) {
+            self.stored[n.place() - 1] = p;
         }
-        if STORED < k {
-            return self;
-        }
-        let i = k - 1;
-        self.stored[i] = p;
         self
     }
 
@@ -48,7 +45,6 @@ impl Axis {
     pub fn active(self) -> u32
         ensures { result ≡ mask (activeOf self) }
     {
-        let w = !self.reference;
-        flags::active(self.warnings, w)
+        flags::active(self.warnings, !self.reference)
     }
 }

@@ -13,7 +13,7 @@ use stream::sums::{Tally, added, added_bytes};
 use units::Number;
 
 fn number_of(n: usize) -> Number {
-    Number::of_count((n % 256) as u8)
+    Number::from((n % 256) as u8)
 }
 
 // The fresh record at a place of the chain, counted from 0.

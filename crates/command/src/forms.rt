@@ -36,8 +36,8 @@ impl Target {
         let none = Setting::OfAxis(AxisSetting::Pos);
         let zero = Number(0);
         match self {
-            Target::Abs(p) => Form::of(4, none, p.number(), zero),
-            Target::Rel(p) => Form::of(5, none, p.number(), zero),
+            Target::Abs(p) => Form::of(4, none, Number::from(p), zero),
+            Target::Rel(p) => Form::of(5, none, Number::from(p), zero),
             Target::Min => Form::of(7, none, zero, zero),
             Target::Max => Form::of(8, none, zero, zero),
             Target::Stored(n) => Form::of(9, none, n, zero),
@@ -57,11 +57,11 @@ impl AxisCommand {
             AxisCommand::Stop => Form::of(2, none, zero, zero),
             AxisCommand::Estop => Form::of(3, none, zero, zero),
             AxisCommand::MoveTo(t) => t.form(),
-            AxisCommand::MoveVel(v) => Form::of(6, none, v.number(), zero),
+            AxisCommand::MoveVel(v) => Form::of(6, none, Number::from(v), zero),
             AxisCommand::Get(s) => Form::of(10, Setting::OfAxis(s), zero, zero),
             AxisCommand::Set(s, n) => Form::of(11, Setting::OfAxis(s), n, zero),
             AxisCommand::Storepos(n) => Form::of(12, none, n, zero),
-            AxisCommand::StoreposAt(n, p) => Form::of(13, none, n, p.number()),
+            AxisCommand::StoreposAt(n, p) => Form::of(13, none, n, Number::from(p)),
             AxisCommand::StoreposCurrent(n) => Form::of(14, none, n, zero),
             AxisCommand::Warnings => Form::of(15, none, zero, zero),
             AxisCommand::WarningsClear => Form::of(16, none, zero, zero),

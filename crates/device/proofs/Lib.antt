@@ -1,3 +1,3 @@
-pub mod Four
+pub mod Changed
 pub mod Stretches
 pub mod FreshGood

@@ -15,11 +15,11 @@ use command::AxisCommand;
 
 impl Device {
     // How many axes k means.
+    #[tactic(auto, unfolding(crate::specs::Record::many))]
     pub fn many(self, k: u64) -> u64
         ensures { result ≡ manyOf self k }
     {
-        let count = self.count as u64;
-        if k == 0 { count } else { 1 }
+        if k == 0 { u64::from(self.count) } else { 1 }
     }
 
     // The axis places that k means; there are four.
@@ -30,26 +30,26 @@ impl Device {
     }
 
     // Does every axis that k means permit the command's values?
+    #[tactic(auto, unfolding(crate::specs::Record::axes_of))]
     pub fn permits(self, k: u64, c: AxisCommand) -> bool
         ensures { result ≡ all (permitsOf c) (axes_of self k) }
     {
-        let axes = self.axes;
-        crate::walks::ask_each(axes, k, self.many(k), c)
+        crate::walks::ask_each(&self.axes, k, self.many(k), c)
     }
 
     // Does some axis that k means move?
+    #[tactic(auto, unfolding(crate::specs::Record::axes_of))]
     pub fn moving(self, k: u64) -> bool
         ensures { result ≡ any movingOf (axes_of self k) }
     {
-        let axes = self.axes;
-        crate::walks::any_moving(axes, k, self.many(k))
+        crate::walks::any_moving(&self.axes, k, self.many(k))
     }
 
     // The flags that are active on some axis that k means, FD to WR, as a mask.
+    #[tactic(auto, unfolding(crate::specs::Record::axes_of))]
     pub fn active(self, k: u64) -> u32
         ensures { result ≡ mask (union activeOf (axes_of self k)) }
     {
-        let axes = self.axes;
-        crate::walks::join_flags(axes, k, self.many(k))
+        crate::walks::join_flags(&self.axes, k, self.many(k))
     }
 }

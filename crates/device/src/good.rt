@@ -33,23 +33,22 @@ impl Device {
     }
 
     // An axis in motion on a parked device is looked for on a parked device only.
+    #[tactic(auto, unfolding(crate::specs::Record::axes_of, crate::specs::Record::many))]
     fn moves_while_parked(self) -> bool
         ensures { result ≡ (self.parked && any movingOf (axes_of self 0)) }
     {
-        if self.parked { self.moving(0) } else { false }
+        self.parked && self.moving(0)
     }
 
+    #[tactic(auto, unfolding(crate::specs::Good::good, crate::specs::Record::axes_of, crate::specs::Record::many))]
     pub fn good(self) -> bool
         ensures { result ≡ goodOf self }
     {
-        let axes = self.axes;
-        let a = self.all_in_range();
-        let b = crate::walks::all_good(axes, self.count as u64);
-        let c = self.moves_while_parked();
-        a & (b & !c)
+        self.all_in_range() && crate::walks::all_good(&self.axes, u64::from(self.count)) && !self.moves_while_parked()
     }
 
     // A fresh record, or 21 BADSTATE where it is asked out of range.
+    #[tactic(auto, unfolding(crate::specs::Good::ask_fresh))]
     pub fn fresh(address: Number, count: u8, id: Number) -> Outcome
         ensures { result ≡ ask_fresh address count id }
     {
@@ -67,11 +66,11 @@ impl Device {
     }
 }
 
+#[tactic(auto, unfolding(crate::specs::Good::may_be_fresh))]
 fn may_be_fresh(address: Number, count: u8, id: Number) -> bool
     ensures { result ≡ may_be_fresh address count id }
 {
-    let a = device_allows(DeviceSetting::CommAddress, address);
-    let b = device_allows(DeviceSetting::SystemAxisCount, Number::of_count(count));
-    let c = device_allows(DeviceSetting::DeviceId, id);
-    a & (b & c)
+    device_allows(DeviceSetting::CommAddress, address)
+        && device_allows(DeviceSetting::SystemAxisCount, Number::from(count))
+        && device_allows(DeviceSetting::DeviceId, id)
 }

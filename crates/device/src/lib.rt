@@ -39,12 +39,10 @@ impl Comm {
     fn fresh(address: Number) -> Comm
         ensures { result ≡ fresh_comm address }
     {
-        let alert = Number(0);
-        let checksum = Number(1);
         Comm {
             address,
-            alert,
-            checksum,
+            alert: Number(0),
+            checksum: Number(1),
         }
     }
 }
@@ -53,30 +51,27 @@ impl Device {
     pub fn value(self, s: DeviceSetting) -> Number
         ensures { result ≡ value_of s self }
     {
-        let count = Number::of_count(self.count);
         match s {
             DeviceSetting::CommAddress => self.comm.address,
             DeviceSetting::CommAlert => self.comm.alert,
             DeviceSetting::CommChecksum => self.comm.checksum,
             DeviceSetting::SystemAccess => self.access,
             DeviceSetting::DeviceId => self.id,
-            DeviceSetting::SystemAxisCount => count,
+            DeviceSetting::SystemAxisCount => Number::from(self.count),
         }
     }
 
+    #[tactic(auto, unfolding(crate::specs::Record::fresh))]
     fn new(address: Number, count: u8, id: Number) -> Device
         ensures { result ≡ fresh_of address count id }
     {
-        let comm = Comm::fresh(address);
-        let access = Number(1);
-        let axis = Axis::fresh();
         Device {
-            comm,
-            access,
+            comm: Comm::fresh(address),
+            access: Number(1),
             id,
             count,
             parked: false,
-            axes: [axis; 4],
+            axes: [Axis::fresh(); 4],
         }
     }
 }

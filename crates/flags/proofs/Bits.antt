@@ -16,7 +16,7 @@ use lib.Pow.{mod-pow-add}
 use Rattle.flags.specs.Flags.{bits, mask, active, either, count, first}
 
 -- ---- a bit
-digit : (n : ℕ) → (n % 2 ≡ 0) ⊎ (n % 2 ≡ 1)
+pub digit : (n : ℕ) → (n % 2 ≡ 0) ⊎ (n % 2 ≡ 1)
 digit n = go (n % 2) (omega arith)
   where
     go : (r : ℕ) → r < 2 → (r ≡ 0) ⊎ (r ≡ 1)

@@ -1,15 +1,17 @@
 -- The flags of the masks that the code gives, and the union of flags with none.
 -- Assumes nothing.
-use mathlib.Core.Path.{◌≡◌, refl, ◌∙◌}
+use mathlib.Core.Path.{◌≡◌, refl, sym, ap, ◌∙◌}
 use mathlib.Core.Bool.{Bool, false}
 use mathlib.Core.List.{List, [], ◌∷◌}
-use Prim.Native.Nat.{ℕ, zero, suc, ◌≤◌}
+use Prim.Native.Nat.{ℕ, zero, suc, ◌/◌, ◌≤◌}
 use native.Mathlib.Omega.{arith}
 use lib.Bits.{bit_or}
 use lib.ListN.{length, replicate}
+use Rattle.std.specs.List.{fold as fold_left}
 use Rattle.laws.specs.Lists.{fold}
+use Rattle.laws.proofs.Bools.{or_false, or_assoc}
 use Rattle.flags.specs.Flags.{bits, mask, active, either, union}
-use Rattle.flags.proofs.Bits.{bits_mask, bits_mod, bits_or, union_is}
+use Rattle.flags.proofs.Bits.{mask_bits, bits_mask, bits_mod, bits_or, union_is}
 
 -- no flag active
 none_either : (k : ℕ) (l : List Bool) → length l ≤ k → either (replicate k false) l ≡ l
@@ -43,3 +45,31 @@ module _ {X : Type 0} (f : X → List Bool) (xs : List X) where
   pub union_start : either (bits 8 0) (union f xs) ≡ union f xs
   unfolding bits
   union_start = none_either 8 (union f xs) (union_length xs)
+
+-- the flags of each element joined to those of the elements before it
+either_assoc : (a b c : List Bool) → either (either a b) c ≡ either a (either b c)
+unfolding either
+either_assoc [] b c = refl
+either_assoc (x ∷ a) [] c = refl
+either_assoc (x ∷ a) (y ∷ b) [] = refl
+either_assoc (x ∷ a) (y ∷ b) (z ∷ c) = rw (or_assoc x y z, either_assoc a b c)
+
+either_none : (k w : ℕ) → either (bits k w) (replicate k false) ≡ bits k w
+unfolding bits either
+either_none zero w = refl
+either_none (suc k) w = rw (or_false, either_none k (w / 2))
+
+abbrev pub join : {X : Type 0} → (X → List Bool) → ℕ → X → ℕ
+join f w x = mask (either (bits 8 w) (bits 8 (mask (f x))))
+
+module _ {X : Type 0} (f : X → List Bool) (eight : (x : X) → bits 8 (mask (f x)) ≡ f x) where
+  joined : (xs : List X) (w : ℕ) → mask (bits 8 w) ≡ w → fold_left (join f) w xs ≡ mask (either (bits 8 w) (union f xs))
+  unfolding fold
+  joined [] w h = rw (either_none 8 w) (sym h)
+  joined (x ∷ xs) w h =
+      let e = bits_union w (mask (f x)) in
+      joined xs (join f w x) (ap mask e)
+      ∙ ap mask (rw (e, eight x) (either_assoc (bits 8 w) (f x) (union f xs)))
+
+  pub union_joined : (xs : List X) → fold_left (join f) 0 xs ≡ mask (union f xs)
+  union_joined xs = joined xs 0 (mask_bits 8 0) ∙ ap mask (union_start f xs)

@@ -11,7 +11,7 @@ ghost use Rattle.phrase.specs.Place.{Places, place_told};
 use command::{AxisCommand, Command, DeviceCommand, Setting, Target};
 use laws::{BADDATA, NOWHERE};
 use numbers::NumberRead;
-use units::Number;
+use units::{Number, Position, Speed};
 
 // What a command's words come to: the command, and the place where the words that it carries begin, 0 where it carries none;
 // or the number of the refusal and its place in the line.
@@ -69,13 +69,13 @@ impl Numbered {
         ensures { result ≡ numberedBy self n }
     {
         match self {
-            Numbered::MoveAbs => Command::OfAxes(AxisCommand::MoveTo(Target::Abs(n.position()))),
-            Numbered::MoveRel => Command::OfAxes(AxisCommand::MoveTo(Target::Rel(n.position()))),
-            Numbered::MoveVel => Command::OfAxes(AxisCommand::MoveVel(n.speed())),
+            Numbered::MoveAbs => Command::OfAxes(AxisCommand::MoveTo(Target::Abs(Position::from(n)))),
+            Numbered::MoveRel => Command::OfAxes(AxisCommand::MoveTo(Target::Rel(Position::from(n)))),
+            Numbered::MoveVel => Command::OfAxes(AxisCommand::MoveVel(Speed::from(n))),
             Numbered::MoveStored => Command::OfAxes(AxisCommand::MoveTo(Target::Stored(n))),
             Numbered::SetTo(s) => set_command(s, n),
             Numbered::Store => Command::OfAxes(AxisCommand::Storepos(n)),
-            Numbered::StoreAt(m) => Command::OfAxes(AxisCommand::StoreposAt(m, n.position())),
+            Numbered::StoreAt(m) => Command::OfAxes(AxisCommand::StoreposAt(m, Position::from(n))),
             Numbered::StoreCurrent => Command::OfAxes(AxisCommand::StoreposCurrent(n)),
         }
     }

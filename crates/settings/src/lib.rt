@@ -95,8 +95,8 @@ impl Settings {
     fn range(self, s: AxisSetting) -> Range
         ensures { result ≡ range_of s self }
     {
-        let low = self.limit.min.number();
-        let high = self.limit.max.number();
+        let low = Number::from(self.limit.min);
+        let high = Number::from(self.limit.max);
         let current = self.current.max;
         match s {
             AxisSetting::Pos => Number(-1000000000).to(Number(1000000000)),
@@ -115,10 +115,10 @@ impl Settings {
     pub fn value(self, s: AxisSetting) -> Number
         ensures { result ≡ value_of s self }
     {
-        let pos = self.pos.number();
-        let low = self.limit.min.number();
-        let high = self.limit.max.number();
-        let speed = self.maxspeed.number();
+        let pos = Number::from(self.pos);
+        let low = Number::from(self.limit.min);
+        let high = Number::from(self.limit.max);
+        let speed = Number::from(self.maxspeed);
         match s {
             AxisSetting::Pos => pos,
             AxisSetting::LimitMin => low,
@@ -153,16 +153,16 @@ impl Settings {
         let mut limit = self.limit;
         let mut current = self.current;
         match s {
-            AxisSetting::Pos => self.pos = n.position(),
+            AxisSetting::Pos => self.pos = Position::from(n),
             AxisSetting::LimitMin => {
-                limit.min = n.position();
+                limit.min = Position::from(n);
                 self.limit = limit;
             }
             AxisSetting::LimitMax => {
-                limit.max = n.position();
+                limit.max = Position::from(n);
                 self.limit = limit;
             }
-            AxisSetting::MaxSpeed => self.maxspeed = n.speed(),
+            AxisSetting::MaxSpeed => self.maxspeed = Speed::from(n),
             AxisSetting::Accel => self.accel = n,
             AxisSetting::DriverCurrentMax => {}
             AxisSetting::DriverCurrentRun => {

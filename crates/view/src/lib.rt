@@ -48,8 +48,8 @@ fn value_of(a: Axis, v: Value) -> Number
     let s = a.settings;
     match v {
         Value::Of(x) => s.value(x),
-        Value::Stored(n) => a.stored_at(n).number(),
-        Value::Pos => s.pos.number(),
+        Value::Stored(n) => Number::from(a.stored_at(n)),
+        Value::Pos => Number::from(s.pos),
     }
 }
 

@@ -1,7 +1,0 @@
--- The walk over the places of the axes that the number means.
-use Rattle.device.specs.Record.{axes_of}
-use Rattle.device.proofs.Device.permits.Goals as goal
-
-pub returns : goal.returns
-unfolding axes_of
-returns c = simp (c.ask_each.ensures, c.many.ensures)
