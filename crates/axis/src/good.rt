@@ -25,7 +25,7 @@ impl Motion {
 fn all_bounded(stored: &[Position]) -> bool
     ensures { result ≡ all good_position stored.now }
 {
-    stored.iter().all(|p| p.bounded())
+    stored.iter().fold(true, |bounded, p| bounded & p.bounded())
 }
 
 impl Axis {

@@ -1,3 +1,4 @@
+pub mod Four
 pub mod Changed
 pub mod Stretches
 pub mod FreshGood

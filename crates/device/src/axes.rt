@@ -34,7 +34,7 @@ impl Device {
     pub fn permits(self, k: u64, c: AxisCommand) -> bool
         ensures { result ≡ all (permitsOf c) (axes_of self k) }
     {
-        crate::walks::ask_each(&self.axes, k, self.many(k), c)
+        crate::walks::ask_each(self.axes, k, self.many(k), c)
     }
 
     // Does some axis that k means move?
@@ -42,7 +42,7 @@ impl Device {
     pub fn moving(self, k: u64) -> bool
         ensures { result ≡ any movingOf (axes_of self k) }
     {
-        crate::walks::any_moving(&self.axes, k, self.many(k))
+        crate::walks::any_moving(self.axes, k, self.many(k))
     }
 
     // The flags that are active on some axis that k means, FD to WR, as a mask.
@@ -50,6 +50,6 @@ impl Device {
     pub fn active(self, k: u64) -> u32
         ensures { result ≡ mask (union activeOf (axes_of self k)) }
     {
-        crate::walks::join_flags(&self.axes, k, self.many(k))
+        crate::walks::join_flags(self.axes, k, self.many(k))
     }
 }

@@ -44,7 +44,9 @@ impl Device {
     pub fn good(self) -> bool
         ensures { result ≡ goodOf self }
     {
-        self.all_in_range() && crate::walks::all_good(&self.axes, u64::from(self.count)) && !self.moves_while_parked()
+        self.all_in_range()
+            && crate::walks::all_good(self.axes, u64::from(self.count))
+            && !self.moves_while_parked()
     }
 
     // A fresh record, or 21 BADSTATE where it is asked out of range.

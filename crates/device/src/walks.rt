@@ -7,7 +7,7 @@ ghost use Rattle.axis.specs.Record.{moving as movingOf};
 ghost use Rattle.axis.specs.Good.{good_axis};
 ghost use Rattle.axis.specs.Commands.{permits as permitsOf, axis_after};
 ghost use Rattle.axis.specs.Warnings.{active as activeOf};
-ghost use Rattle.device.specs.Each.{stretch_of};
+ghost use Rattle.device.specs.Each.{stretch_of, covers as coversAt};
 
 use axis::Axis;
 use command::AxisCommand;
@@ -29,41 +29,57 @@ pub(crate) fn stretch_of(k: u64, n: u64) -> Stretch
     Stretch { from, many }
 }
 
-// The axes of those places. They are lent, so that none is copied to be looked at.
-#[tactic(auto, using(crate::proofs::Stretches::stretch_inside))]
-fn part(axes: &[Axis; 4], k: u64, n: u64) -> &[Axis]
-    ensures { result.now ≡ take n (drop (k - 1) axes.now) }
-{
-    let p = stretch_of(k, n);
-    &axes[p.from..p.from + p.many]
+impl Stretch {
+    // Is the axis at place i, from 0, one of the stretch?
+    #[tactic(auto, unfolding(crate::specs::Each::covers))]
+    fn covers(self, i: usize) -> bool
+        ensures { result ≡ coversAt self i }
+    {
+        self.from <= i && i - self.from < self.many
+    }
 }
 
 // Is every axis good, of the first n?
-pub(crate) fn all_good(axes: &[Axis; 4], n: u64) -> bool
-    ensures { result ≡ all good_axis (take n axes.now) }
+pub(crate) fn all_good(axes: [Axis; 4], n: u64) -> bool
+    ensures { result ≡ all good_axis (take n axes) }
 {
-    part(axes, 1, n).iter().all(|a| a.good())
+    axes.iter().take(n as usize).all(|a| a.good())
 }
 
 // Does some of these axes move?
-pub(crate) fn any_moving(axes: &[Axis; 4], k: u64, n: u64) -> bool
-    ensures { result ≡ any movingOf (take n (drop (k - 1) axes.now)) }
+#[tactic(auto, using(crate::proofs::Stretches::stretch_inside))]
+pub(crate) fn any_moving(axes: [Axis; 4], k: u64, n: u64) -> bool
+    ensures { result ≡ any movingOf (take n (drop (k - 1) axes)) }
 {
-    part(axes, k, n).iter().any(|a| a.moving())
+    let p = stretch_of(k, n);
+    axes.iter()
+        .enumerate()
+        .any(|(i, a)| p.covers(i) && a.moving())
 }
 
 // Does each of these axes permit the command's values?
-pub(crate) fn ask_each(axes: &[Axis; 4], k: u64, n: u64, c: AxisCommand) -> bool
-    ensures { result ≡ all (permitsOf c) (take n (drop (k - 1) axes.now)) }
+pub(crate) fn ask_each(axes: [Axis; 4], k: u64, n: u64, c: AxisCommand) -> bool
+    ensures { result ≡ all (permitsOf c) (take n (drop (k - 1) axes)) }
 {
-    part(axes, k, n).iter().all(|a| axis::commands::permits(*a, c))
+    let p = stretch_of(k, n);
+    axes.iter()
+        .enumerate()
+        .all(|(i, a)| !p.covers(i) || axis::commands::permits(*a, c))
 }
 
 // The flags that are active on some of these axes, FD to WR, as a mask.
-pub(crate) fn join_flags(axes: &[Axis; 4], k: u64, n: u64) -> u32
-    ensures { result ≡ mask (union activeOf (take n (drop (k - 1) axes.now))) }
+pub(crate) fn join_flags(axes: [Axis; 4], k: u64, n: u64) -> u32
+    ensures { result ≡ mask (union activeOf (take n (drop (k - 1) axes))) }
 {
-    part(axes, k, n).iter().fold(0, |flags, a| flags::union(flags, a.active()))
+    let p = stretch_of(k, n);
+    axes.iter().enumerate().fold(
+        0,
+        |flags, (i, a)| if p.covers(i) {
+            flags::union(flags, a.active())
+        } else {
+            flags
+        },
+    )
 }
 
 // These axes after the command, and all other places as they are.
