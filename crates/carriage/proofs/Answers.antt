@@ -1,5 +1,8 @@
 -- The three ways to answer what a line comes to: silence, a rejecting reply, or an accepting one.
 -- Assumes nothing.
+use Rattle.std.specs.Prelude.{Err}
+use Rattle.laws.specs.Refusals.{ACCEPTED}
+use Rattle.laws.specs.declared.Refusal.{Refusal}
 use mathlib.Core.Path.{◌≡◌, refl, sym, ap, subst, ◌∙◌}
 use mathlib.Core.Bool.{Bool, true, false, cond, not}
 use mathlib.Core.List.{List, [], ◌++◌}
@@ -17,8 +20,7 @@ use Rattle.command.specs.Forms.{form_of}
 use Rattle.command.specs.Commands.{demands, is_words, is_info}
 use Rattle.command.specs.Commands as Table
 use Rattle.buffer.specs.Wrote.{Wrote}
-use Rattle.line.specs.declared.LineRead.{LineRead}
-use Rattle.line.specs.Reading.{read_line, carried_by}
+use Rattle.line.specs.Reading.{LineRead, read_line, carried_by}
 use Rattle.device.specs.declared.Device.{Device}
 use Rattle.device.specs.Good.{good}
 use Rattle.rules.specs.Effects.{next}
@@ -75,19 +77,19 @@ once_as d l r b {g} p u v e =
     subst (λ (z : Ruling). Comes d l b (fitting r) (fitted z)) (sym (v ∙ ap (rule d) (u ∙ same)) ∙ e) (comes_once d l b r)
 
 module _ (d : Device) (l : List ℕ) (r : LineRead) (b : List ℕ) where
-  pub silence_gives : (n : ℕ) → Comes d l b r (Silent n) → Gives (respond d l r b) (record { number = n; length = 0; next = d }) b
-  silence_gives n w = gives_as w.answers (silent_gives n d b refl)
+  pub silence_gives : (n : Refusal) → Comes d l b r (Silent n) → Gives (respond d l r b) (record { verdict = Err n; length = 0; next = d }) b
+  silence_gives n w = gives_as w.answers (silent_gives (Err n) d b refl)
 
-  module _ (k n : ℕ) (w : Comes d l b r (Rejected k n)) {h : Heading} (p : h ≡ heading_of d k false) where
+  module _ (k : ℕ) (n : Refusal) (w : Comes d l b r (Rejected k n)) {h : Heading} (p : h ≡ heading_of d k false) where
     pub rejection_digit : h.head.axis < 10
     rejection_digit = head_digit d k false p (good_count d w.fair.1)
 
     pub rejection_gives : {q : ℕ} {f : List ℕ} → Wrote b 0 (reply h.head h.sum (refusal_name n)) f q
-        → Gives (respond d l r b) (record { number = n; length = q; next = d }) f
+        → Gives (respond d l r b) (record { verdict = Err n; length = q; next = d }) f
     unfolding rejected reply_of
     rejection_gives v =
         let fits = reply_short d k (good_count d w.fair.1) false (refusal_name n) (omega (arith, refusal_length n)) in
-        gives_as w.answers (wrote_gives n d (reply_of d k false (refusal_name n)) (rw p at v) (omega (arith, fits, w.fair.0)) refl)
+        gives_as w.answers (wrote_gives (Err n) d (reply_of d k false (refusal_name n)) (rw p at v) (omega (arith, fits, w.fair.0)) refl)
 
   module _ (k from end : ℕ) (c : Command) (y : Demands) (w : Comes d l b r (Accepted k from end c y)) where
     -- the next record is made, unless the command only shows
@@ -121,7 +123,7 @@ module _ (d : Device) (l : List ℕ) (r : LineRead) (b : List ℕ) where
         lines = cond (informs t) (joined-lines (info_lines h.head.address h.sum)) []
 
         pub acceptance_gives : {x : ℕ} {g : List ℕ} → Wrote b 0 (reply h.head h.sum (told_text l t) ++ lines) g x
-            → Gives (respond d l r b) (record { number = 0; length = x; next = e }) g
+            → Gives (respond d l r b) (record { verdict = ACCEPTED; length = x; next = e }) g
         unfolding accepted reply_of head_of
         acceptance_gives {x} {g} v =
             let words = data_of d k (carried_by c (drop from (take end l))) c in
@@ -129,5 +131,5 @@ module _ (d : Device) (l : List ℕ) (r : LineRead) (b : List ℕ) where
             let whole : Wrote b 0 text g x = rw (infos_as (next d k c) c, ← told-informing) (rw (z, m, told-data) at v) in
             let few = next_few d k c w.fair.good refl in
             let fits = answer_short (next d k c) k c words few (sound_fits d l b k from end c y w.fair) in
-            gives_as w.answers (wrote_gives 0 (next d k c) text whole (omega (arith, fits, w.fair.enough))
-            (ap (λ (e : Device). record { number = 0; length = x; next = e }) m))
+            gives_as w.answers (wrote_gives ACCEPTED (next d k c) text whole (omega (arith, fits, w.fair.enough))
+            (ap (λ (e : Device). record { verdict = ACCEPTED; length = x; next = e }) m))

@@ -1,5 +1,6 @@
 -- The cases of document 01 that are marked P, with the checksums of 02's order 1, and some beside them, as one table under one statement:
 -- what came before, the line, the number and the whole reply. Over the very definitions that `step` and `report` promise, by computation.
+use Rattle.std.specs.Prelude.{Err}
 use mathlib.Core.Path.{◌≡◌, refl}
 use mathlib.Core.List.{List, [], ◌∷◌, ◌++◌, map}
 use Prim.Native.Nat.{ℕ}
@@ -7,7 +8,8 @@ use Prim.Native.String.{String}
 use lib.IntN.{pos}
 use lib.ListN.{take, replicate}
 use Rattle.laws.specs.Text.{text}
-use Rattle.laws.specs.Refusals.{ACCEPTED, NOTLINE, BADSUM, BADADDRESS, NOTMINE, BADCOMMAND, BADDATA, BADAXIS, DEVICEONLY, NOACCESS, PARKED, STATUSBUSY}
+use Rattle.laws.specs.declared.Refusal.TheVariants.{NotLine, BadSum, BadAddress, NotMine, BadCommand, BadData, BadAxis, DeviceOnly, NoAccess, Parked, StatusBusy}
+use Rattle.laws.specs.Refusals.{ACCEPTED, Verdict}
 use Rattle.units.specs.Units.{number}
 use Rattle.axis.specs.RaisedWarnings.{raise, raised}
 use Rattle.axis.specs.Reports.{report_of}
@@ -49,27 +51,27 @@ in_park = homed then "/tools parking park\n"
 pub record Case : Type 0 where
   pub before : List Event
   pub line : String
-  pub number : ℕ
+  pub verdict : Verdict
   pub reply : String
 
-abbrev case : List Event → String → ℕ → String → Case
-case b l n r = record { before = b; line = l; number = n; reply = r }
+abbrev case : List Event → String → Verdict → String → Case
+case b l v r = record { before = b; line = l; verdict = v; reply = r }
 
 unfoldable pub cases : List Case
 cases =
     case [] "/\n" ACCEPTED "@01 0 OK IDLE WR 0:3E\r\n"
-    ∷ case [] "/" NOTLINE ""
+    ∷ case [] "/" (Err NotLine) ""
     ∷ case [] "/01 tools echo:8F\n" ACCEPTED "@01 0 OK IDLE WR 0:3E\r\n"
-    ∷ case [] "/01 tools echo:8E\n" BADSUM ""
-    ∷ case [] "/0x63 home\n" NOTMINE ""
-    ∷ case [] "/0x64 home\n" BADADDRESS ""
-    ∷ case [] "/-1\n" BADADDRESS ""
-    ∷ case [] "/1 7 home\n" BADAXIS "@01 0 RJ IDLE WR BADAXIS:70\r\n"
-    ∷ case [] "/1 1 get comm.alert\n" DEVICEONLY "@01 1 RJ IDLE WR DEVICEONLY:79\r\n"
-    ∷ case [] "/set driver.dir 1\n" NOACCESS "@01 0 RJ IDLE WR NOACCESS:1D\r\n"
+    ∷ case [] "/01 tools echo:8E\n" (Err BadSum) ""
+    ∷ case [] "/0x63 home\n" (Err NotMine) ""
+    ∷ case [] "/0x64 home\n" (Err BadAddress) ""
+    ∷ case [] "/-1\n" (Err BadAddress) ""
+    ∷ case [] "/1 7 home\n" (Err BadAxis) "@01 0 RJ IDLE WR BADAXIS:70\r\n"
+    ∷ case [] "/1 1 get comm.alert\n" (Err DeviceOnly) "@01 1 RJ IDLE WR DEVICEONLY:79\r\n"
+    ∷ case [] "/set driver.dir 1\n" (Err NoAccess) "@01 0 RJ IDLE WR NOACCESS:1D\r\n"
     ∷ case [] "/01 set comm.address 5\n" ACCEPTED "@05 0 OK IDLE WR 0:3A\r\n"
     ∷ case homed "/move abs 305381\n" ACCEPTED "@01 0 OK BUSY -- 0:68\r\n"
-    ∷ case homed "/move abs 305382\n" BADDATA "@01 0 RJ IDLE -- BADDATA:DA\r\n"
+    ∷ case homed "/move abs 305382\n" (Err BadData) "@01 0 RJ IDLE -- BADDATA:DA\r\n"
     -- beside those of document 01: an axis that is not 0, data that are not 0, values of both axes, replies without a checksum
     ∷ case [] "/1 2 home\n" ACCEPTED "@01 2 OK BUSY WR 0:17\r\n"
     ∷ case [] "/1 2 get limit.max\n" ACCEPTED "@01 2 OK IDLE WR 305381:38\r\n"
@@ -77,38 +79,38 @@ cases =
     ∷ case [] "/tools echo a  b\n" ACCEPTED "@01 0 OK IDLE WR a b:8B\r\n"
     ∷ case [] "/set comm.checksum 0\n" ACCEPTED "@01 0 OK IDLE WR 0\r\n"
     ∷ case ([] then "/set comm.checksum 0\n") "/set comm.checksum 1\n" ACCEPTED "@01 0 OK IDLE WR 0:3E\r\n"
-    ∷ case [] "/1 2 moves\n" BADCOMMAND "@01 2 RJ IDLE WR BADCOMMAND:A4\r\n"
-    ∷ case homed "/1 2 move abs 305382\n" BADDATA "@01 2 RJ IDLE -- BADDATA:D8\r\n"
+    ∷ case [] "/1 2 moves\n" (Err BadCommand) "@01 2 RJ IDLE WR BADCOMMAND:A4\r\n"
+    ∷ case homed "/1 2 move abs 305382\n" (Err BadData) "@01 2 RJ IDLE -- BADDATA:D8\r\n"
     ∷ case gone "/get pos\n" ACCEPTED "@01 0 OK IDLE -- 0 10000:7C\r\n"
     ∷ case gone "/1 2 get pos\n" ACCEPTED "@01 2 OK IDLE -- 10000:CA\r\n"
     ∷ case (gone then "/1 1 home\n") "/1 2\n" ACCEPTED "@01 2 OK IDLE -- 0:8B\r\n"
     ∷ case (gone then "/1 1 home\n") "/1\n" ACCEPTED "@01 0 OK BUSY -- 0:68\r\n"
-    ∷ case (gone then "/1 1 home\n") "/1 1 set pos 5\n" STATUSBUSY "@01 1 RJ BUSY -- STATUSBUSY:6E\r\n"
+    ∷ case (gone then "/1 1 home\n") "/1 1 set pos 5\n" (Err StatusBusy) "@01 1 RJ BUSY -- STATUSBUSY:6E\r\n"
     ∷ case (told 2 4 3 ∷ []) "/1 1 warnings\n" ACCEPTED "@01 1 OK IDLE WR 01 WR:43\r\n"
     ∷ case (told 2 4 3 ∷ []) "/warnings\n" ACCEPTED "@01 0 OK IDLE FS 02 FS WR:9A\r\n"
     -- on a parked device: home unparks (02, order 4), for one axis as for all, and one that is refused does not
-    ∷ case in_park "/stop\n" PARKED "@01 0 RJ IDLE -- PARKED:04\r\n"
-    ∷ case in_park "/move abs 5\n" PARKED "@01 0 RJ IDLE -- PARKED:04\r\n"
+    ∷ case in_park "/stop\n" (Err Parked) "@01 0 RJ IDLE -- PARKED:04\r\n"
+    ∷ case in_park "/move abs 5\n" (Err Parked) "@01 0 RJ IDLE -- PARKED:04\r\n"
     ∷ case in_park "/home\n" ACCEPTED "@01 0 OK BUSY -- 0:68\r\n"
     ∷ case in_park "/1 2 home\n" ACCEPTED "@01 2 OK BUSY -- 0:66\r\n"
     ∷ case (in_park then "/1 2 home\n") "/tools parking state\n" ACCEPTED "@01 0 OK BUSY -- 0:68\r\n"
     ∷ case (in_park then "/1 2 home\n") "/1 1 move abs 5\n" ACCEPTED "@01 1 OK BUSY -- 0:67\r\n"
     ∷ case (in_park then "/1 7 home\n") "/tools parking state\n" ACCEPTED "@01 0 OK IDLE -- 1:8C\r\n"
-    ∷ case (in_park then "/2 home\n") "/estop\n" PARKED "@01 0 RJ IDLE -- PARKED:04\r\n"
+    ∷ case (in_park then "/2 home\n") "/estop\n" (Err Parked) "@01 0 RJ IDLE -- PARKED:04\r\n"
     ∷ []
 
 -- the number, and the bytes of the reply
 pub record Said : Type 0 where
-  pub number : ℕ
+  pub verdict : Verdict
   pub bytes : List ℕ
 
 unfoldable pub said : Case → Said
 said c =
     let s = step (reached fresh_device c.before) (text c.line) (replicate longest_answer 0) in
-    record { number = s.answer.number; bytes = take s.answer.length s.buffer }
+    record { verdict = s.answer.verdict; bytes = take s.answer.length s.buffer }
 
 unfoldable pub wanted : Case → Said
-wanted c = record { number = c.number; bytes = text c.reply }
+wanted c = record { verdict = c.verdict; bytes = text c.reply }
 
 pub all_cases : map said cases ≡ map wanted cases
 unfolding answering fresh_device reached report Device.report report_refusal bad_report is_axis report_of raise raised cases said wanted

@@ -1,5 +1,6 @@
 -- On a good record the data of every reply fits: 74 bytes at most.
 -- Assumes nothing.
+use Rattle.laws.specs.Refusals.{ACCEPTED}
 use mathlib.Core.Path.{◌≡◌, refl}
 use mathlib.Core.Logic.{⊎_elim}
 use mathlib.Core.Bool.{Bool, true, false, cond}
@@ -229,13 +230,13 @@ echo_short c s h = go (carries_words c) h
 pub part_short : (l : List ℕ) (from end : ℕ) → end ≤ from + 74 → length (drop from (take end l)) ≤ 74
 part_short l from end h = rw (length-drop, length-take) (omega (arith, h))
 
-pub data_fits : (d : Device) (k : ℕ) (c : Command) (es : List (List ℕ)) → good d ≡ true → refusal d k c ≡ 0 → length (echoed es) ≤ 74
+pub data_fits : (d : Device) (k : ℕ) (c : Command) (es : List (List ℕ)) → good d ≡ true → refusal d k c ≡ ACCEPTED → length (echoed es) ≤ 74
     → length (data_of d k es c) ≤ 74
 unfolding data_of bad_axis
 data_fits d k c es g e h =
     text_fits d k (goodness d g) (good_count d g) (ltb-false d.count k (within_count d k c e)) es h (form_of c) (demands c).reply
 
 -- the words that a line carries
-pub line_fits : (d : Device) (k : ℕ) (c : Command) (es : List (List ℕ)) (l : List ℕ) → good d ≡ true → refusal d k c ≡ 0 → Carried l c es
+pub line_fits : (d : Device) (k : ℕ) (c : Command) (es : List (List ℕ)) (l : List ℕ) → good d ≡ true → refusal d k c ≡ ACCEPTED → Carried l c es
     → length (data_of d k es c) ≤ 74
 line_fits d k c es l g e h = data_fits d k c es g e (rw h.parted (echo_short c h.part h.short))

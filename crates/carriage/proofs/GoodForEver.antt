@@ -4,7 +4,8 @@ use mathlib.Core.Path.{◌≡◌, refl, sym, ap, ◌∙◌}
 use mathlib.Core.Bool.{Bool, true, false, cond}
 use mathlib.Core.List.{List, [], ◌∷◌}
 use Prim.Native.Nat.{ℕ, ◌-◌}
-use native.Mathlib.Decide.{ℕ_discrete}
+use mathlib.Core.Logic.{⊎_elim}
+use Rattle.laws.proofs.Refusals.{accepted_or}
 use lib.ListN.{length}
 use Rattle.laws.proofs.Walks.{length_change}
 use Rattle.units.specs.Units.{place}
@@ -58,11 +59,9 @@ report_places : (d : Device) (axis : Number) (r : Motor) → length (Device.repo
 unfolding on_axes
 report_places d axis r =
     let k = place axis.0 in
-    elim (ℕ_discrete (Device.report d axis r).number 0) [
-      | yes e ↦ ap (λ (x : Device). length x.axes) (report_next d axis r e)
-          ∙ length_change (Axis.reported r) (k - 1) (many d k) d.axes
-      | no h ↦ ap (λ (x : Device). length x.axes) (report_keeps d axis r h)
-    ]
+    ⊎_elim (λ e. ap (λ (x : Device). length x.axes) (report_next d axis r e) ∙ length_change (Axis.reported r) (k - 1) (many d k) d.axes)
+    (λ h. ap (λ (x : Device). length x.axes) (report_keeps d axis r h))
+    (accepted_or (Device.report d axis r).verdict)
 
 -- one event
 pub well_after : (d : Device) (e : Event) → Well d → Well (after d e)

@@ -1,5 +1,6 @@
 -- From the bytes of a line to the carriage: an accepted move sends each axis concerned to the number asked for; and whatever is
 -- answered, all of them go or none does. Over every record and buffer. Assumes nothing.
+use Rattle.laws.specs.Refusals.{ACCEPTED}
 use mathlib.Core.Path.{◌≡◌, refl, ap, ◌∙◌}
 use mathlib.Core.List.{List, [], ◌∷◌, map}
 use mathlib.Core.Logic.{◌⊎◌, inl}
@@ -57,11 +58,11 @@ module _ {l : List ℕ} {a : Asked} (t : Target) (d : Device) (b : List ℕ) (w 
   obeyed_as = obeyed_next d a.axis a.echo a.command b ∙ ap (λ (x : Command). (obey d a.axis x).next) c
 
   -- Accepted: each axis concerned is sent to the target asked for, and nothing else has changed.
-  pub move_does_nothing_else : (step d l b).answer.number ≡ 0 → (step d l b).answer.next ≡ on_axes (sent t) a.axis d
+  pub move_does_nothing_else : (step d l b).answer.verdict ≡ ACCEPTED → (step d l b).answer.next ≡ on_axes (sent t) a.axis d
   move_does_nothing_else e = let m = accepted_line d b w c e in m.1 ∙ target_exact d a.axis t m.0
 
   -- Axis by axis: in motion to just the number asked for.
-  pub move_goes_where_asked : (step d l b).answer.number ≡ 0 → motions (step d l b).answer.next a.axis ≡ targets t d a.axis
+  pub move_goes_where_asked : (step d l b).answer.verdict ≡ ACCEPTED → motions (step d l b).answer.next a.axis ≡ targets t d a.axis
   move_goes_where_asked e =
       ap (λ (n : Device). motions n a.axis) (move_does_nothing_else e) ∙ motions_after (sent t) a.axis d
 

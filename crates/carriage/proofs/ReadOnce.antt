@@ -1,5 +1,8 @@
 -- A line that is read once for several records is answered for each as if it were read for that record alone.
 -- Assumes nothing.
+use Rattle.laws.specs.declared.Refusal.TheVariants.{NoRoom, BadState}
+use Rattle.phrase.specs.Reading.{WordsRead}
+use Rattle.std.specs.Prelude.{Ok, Err}
 use mathlib.Core.Path.{◌≡◌, refl, ap}
 use mathlib.Core.Bool.{Bool, true, false, cond}
 use mathlib.Core.List.{List, []}
@@ -9,15 +12,13 @@ use borrow.Author.Tests.{lt-ltb, le-ltb, le-leb, lt-leb}
 use Rattle.words.specs.Cutting.{cut}
 use Rattle.command.specs.declared.Command.{Command}
 use Rattle.command.specs.Commands.{carries_words}
-use Rattle.phrase.specs.declared.WordsRead.TheVariants as Words
-use Rattle.line.specs.declared.LineRead.{LineRead}
-use Rattle.line.specs.declared.LineRead.TheVariants.{Silent, Addressed}
-use Rattle.line.specs.Reading.{read_line, carried_by}
+use Rattle.line.specs.Reading.{LineRead, read_line, carried_by, sent}
 use Rattle.line.proofs.Carried.{carried_near}
 use Rattle.device.specs.declared.Device.{Device}
 use Rattle.carriage.specs.Step.{silence, respond, step}
 use Rattle.carriage.specs.Rulings.{roomy}
 use Rattle.carriage.specs.ReadOnce.{end_within, fitting, respond_to, overheard}
+use Rattle.laws.specs.Refusals.{refusal_at}
 
 -- ---- the end of words that begin at `from`
 module _ (from end : ℕ) where
@@ -29,14 +30,14 @@ module _ (from end : ℕ) where
 
 -- ---- what is heard of what was read
 module _ (good : Bool) (r : LineRead) (room : ℕ) where
-  pub overheard_small : room < 96 → Silent 20 255 ≡ overheard good r room
+  pub overheard_small : room < 96 → Err (refusal_at NoRoom 255) ≡ overheard good r room
   overheard_small h = rw (lt-ltb room 96 h)
 
   module _ (h : 96 ≤ room) where
     pub overheard_read : good ≡ true → {x : LineRead} → x ≡ roomy room r → x ≡ overheard good r room
     overheard_read g e = rw (le-ltb room 96 h, g) e
 
-    pub overheard_bad : good ≡ false → Silent 21 255 ≡ overheard good r room
+    pub overheard_bad : good ≡ false → Err (refusal_at BadState 255) ≡ overheard good r room
     overheard_bad g = rw (le-ltb room 96 h, g)
 
 -- ---- the words that a line carries are all looked at
@@ -52,9 +53,13 @@ module _ (d : Device) (l b : List ℕ) where
 
   fitting_same : (r : LineRead) → read_line l ≡ r → respond d l (fitting r) b ≡ respond d l r b
   unfolding respond silence
-  fitting_same (Silent n p) e = refl
-  fitting_same (Addressed a k end (Words.Refused m p)) e = refl
-  fitting_same (Addressed a k end (Words.Command c from)) e = rw (carried_all c from end (carried_near l a k end from c e))
+  fitting_same (Err u) e = refl
+  fitting_same (Ok x) e = go x.words e
+    where
+      go : (w : WordsRead) → read_line l ≡ Ok (sent x.address x.axis x.end w)
+          → respond d l (fitting (Ok (sent x.address x.axis x.end w))) b ≡ respond d l (Ok (sent x.address x.axis x.end w)) b
+      go (Err u) e = refl
+      go (Ok y) e = rw (carried_all y.command y.from x.end (carried_near l x.address x.axis x.end y.from y.command e))
 
   pub read_once : respond_to d l (read_line l) b ≡ step d l b
   unfolding respond_to step

@@ -1,5 +1,6 @@
 -- What a good record sends: a text that is written whole is the answer, and none is longer than room is asked for.
 -- Assumes nothing.
+use Rattle.laws.specs.Refusals.{Verdict}
 use mathlib.Core.Path.{◌≡◌, refl, ap, ◌∙◌}
 use mathlib.Core.Logic.{⊎_elim}
 use mathlib.Core.Bool.{Bool, true, false, cond}
@@ -46,15 +47,15 @@ pub head_digit : {h : Heading} (d : Device) (k : ℕ) (ok : Bool) → h ≡ head
 unfolding head_of
 head_digit d k ok e few = rw e (shown_digit d k few)
 
--- a text that is written whole, from the front of the buffer on, is the answer, beside the number n
-pub wrote_gives : (n : ℕ) (d : Device) (t : List ℕ) {b f : List ℕ} {r : ℕ} → Wrote b 0 t f r → length t ≤ length b → {a : Answer}
-    → a ≡ record { number = n; length = r; next = d } → Gives (written n d t b) a f
+-- a text that is written whole, from the front of the buffer on, is the answer, beside the verdict v
+pub wrote_gives : (v : Verdict) (d : Device) (t : List ℕ) {b f : List ℕ} {r : ℕ} → Wrote b 0 t f r → length t ≤ length b → {a : Answer}
+    → a ≡ record { verdict = v; length = r; next = d } → Gives (written v d t b) a f
 unfolding written
-wrote_gives n d t {b} {f} {r} w h e =
+wrote_gives v d t {b} {f} {r} w h e =
     let k = wrote_room w (omega arith) in
     let long : r ≡ length t = rw zero-add at k.1 in
     record {
-      result = e ∙ ap (λ (x : ℕ). record { number = n; length = x; next = d }) long;
+      result = e ∙ ap (λ (x : ℕ). record { verdict = v; length = x; next = d }) long;
       left = rw zero-add at k.0;
     }
 

@@ -1,32 +1,28 @@
 -- No answer has more bytes than room is asked for, whatever the record, the line and the buffer: nothing of it is ever cut. And the number
 -- of a silence, or of a report, has two digits at most. Assumes nothing.
+use Rattle.laws.specs.Refusals.{ACCEPTED}
+use Rattle.laws.specs.declared.Refusal.{Refusal}
+use Rattle.std.specs.Prelude.{Err, is_ok}
 use mathlib.Core.Path.{◌≡◌, refl, subst}
 use mathlib.Core.Bool.{Bool, true, false, cond, ◌&&◌}
 use mathlib.Core.List.{List, [], ◌++◌}
 use Prim.Native.Nat.{ℕ, ◌≤◌, ◌<◌}
 use native.Mathlib.Omega.{arith}
-use lib.Dec.{eqb, ltb}
+use lib.Dec.{ltb}
 use lib.ListN.{length, take, drop}
-use borrow.Author.Tests.{eqb-true, ltb-true, ltb-false}
-use Rattle.laws.specs.Refusals.{NOROOM}
+use borrow.Author.Tests.{ltb-true, ltb-false}
+use Rattle.laws.specs.declared.Refusal.TheVariants.{NoRoom}
 use Rattle.laws.proofs.Bools.{and_left}
-use Rattle.laws.proofs.Each.{none, more}
-use Rattle.laws.proofs.Refusals.{at_most}
+use Rattle.laws.proofs.Refusals.{accepted_is}
 use Rattle.units.specs.Units.{place}
 use Rattle.units.specs.declared.Number.{Number}
 use Rattle.axis.specs.declared.reports.Report.{Report}
 use Rattle.axis.specs.Reports.{report_of, rests}
-use Rattle.phrase.specs.declared.WordsRead.TheVariants as Words
-use Rattle.line.specs.declared.LineRead.{LineRead}
-use Rattle.line.specs.declared.LineRead.TheVariants as Line
-use Rattle.line.specs.Reading.{read_line, number_of, carried_by}
-use Rattle.line.specs.Refusals.{refusal_of}
-use Rattle.line.proofs.Refused.{line_refused}
+use Rattle.line.specs.Reading.{LineRead, read_line, carried_by}
 use Rattle.line.proofs.Carried.{carried_of}
 use Rattle.device.specs.declared.Device.{Device}
 use Rattle.device.specs.declared.Outcome.{Outcome}
 use Rattle.device.specs.Good.{good}
-use Rattle.rules.specs.Refusals.{refusal}
 use Rattle.rules.specs.Effects.{next}
 use Rattle.rules.specs.Reports as Device
 use Rattle.reply.specs.Data.{refusal_name}
@@ -38,7 +34,7 @@ use Rattle.carriage.specs.declared.Ruling.TheVariants.{Silent, Rejected, Accepte
 use Rattle.carriage.specs.ReadOnce.{overheard, respond_to}
 use Rattle.carriage.specs.Rulings.{rule}
 use Rattle.carriage.specs.Report.{alert_due, alert_of, told, report}
-use Rattle.carriage.specs.Step.{Stepped, silent, written, reply_of, rejected, infos_of, accepted, unread, room_for, silence, step}
+use Rattle.carriage.specs.Step.{Stepped, silent, written, reply_of, rejected, infos_of, accepted, room_for, step}
 use Rattle.carriage.proofs.Fits.{line_fits}
 use Rattle.rules.proofs.GoodStays.{good_count}
 use Rattle.carriage.proofs.AnswerRoom.{least_room}
@@ -53,13 +49,13 @@ unfolding silent rejected accepted written
 answer_within d l b =
     each_answer (λ s. s.answer.length ≤ room_for (read_line l)) d l b (λ h. omega arith)
     (λ a k end m p is w g. rejecting m k g)
-    (λ a k end from c is g h. rejecting (refusal d k c) k g)
+    (λ a k end from c n is g h. rejecting n k g)
     (λ a k end from c is g e.
     let es = carried_by c (drop from (take end l)) in
     let few : (next d k c).count ≤ 4 = rw (next_count d k c) (good_count d g) in
     rw is (answer_short (next d k c) k c (data_of d k es c) few (line_fits d k c es l g e (carried_of l a k end from c is))))
   where
-    rejecting : (n k : ℕ) → good d ≡ true → length (reply_of d k false (refusal_name n)) ≤ room_for (read_line l)
+    rejecting : (n : Refusal) (k : ℕ) → good d ≡ true → length (reply_of d k false (refusal_name n)) ≤ room_for (read_line l)
     rejecting n k g = omega (
       arith,
       reply_short d k (good_count d g) false (refusal_name n) (omega (arith, refusal_length n)),
@@ -99,37 +95,13 @@ module _ (d : Device) (l b : List ℕ) where
       subst (λ (s : Stepped). s.answer.length ≤ length b) w.answers
       (ruled_fits (fitted (rule d (overheard (good d) r (length b)))) w.fair)
 
--- ---- the numbers of silence
-unread_small : (r : LineRead) → unread r ≤ number_of r
-unread_small (Line.Silent n p) = omega arith
-unread_small (Line.Addressed n k end (Words.Refused m p)) = omega arith
-unread_small (Line.Addressed n k end (Words.Command c from)) = omega arith
-
-line_small : (l : List ℕ) → refusal_of l ≤ 11
-unfolding refusal_of
-line_small l = at_most 11 (more (omega arith) (more (omega arith)
-    (more (omega arith) (more (omega arith) (more (omega arith) (more (omega arith) none))))))
-
-pub unread_at_most_11 : (l : List ℕ) → unread (read_line l) ≤ 11
-unread_at_most_11 l = omega (arith, unread_small (read_line l), line_refused l, line_small l)
-
-pub silence_small : (d : Device) (l b : List ℕ) → silence d (read_line l) b ≤ 21
-unfolding silence
-silence_small d l b =
-    let read = unread_at_most_11 l in
-    at_most 21 (more (omega arith) (more (omega arith) (more (omega arith) (more (omega arith) (more (omega arith) none)))))
-
--- ---- the numbers of reports
-outcome_small : (d : Device) (axis : Number) (r : Report) → (Device.report d axis r).number ≤ 22
-unfolding Device.report Device.report_refusal
-outcome_small d axis r = at_most 22 (more (omega arith) (more (omega arith) none))
-
+-- ---- reports
 -- whether the buffer has room, and whether an alert is due
 pub by_report : (P : Stepped → Type 0) (d : Device) (axis kind last : Number) (b : List ℕ)
-    → (length b < 96 → P (silent NOROOM d b))
+    → (length b < 96 → P (silent (Err NoRoom) d b))
     → (let o = Device.report d axis (report_of kind last) in
-    96 ≤ length b → (o.number ≡ 0) → P (written 0 o.next (alert_of o.next (place axis.0)) b))
-    → (let o = Device.report d axis (report_of kind last) in P (silent o.number o.next b))
+    96 ≤ length b → (o.verdict ≡ ACCEPTED) → P (written ACCEPTED o.next (alert_of o.next (place axis.0)) b))
+    → (let o = Device.report d axis (report_of kind last) in P (silent o.verdict o.next b))
     → P (report d axis kind last b)
 unfolding report
 by_report P d axis kind last b small alert quiet = go (ltb (length b) 96) refl
@@ -141,20 +113,14 @@ by_report P d axis kind last b small alert quiet = go (ltb (length b) 96) refl
     o = Device.report d axis r
 
     due : 96 ≤ length b → (t : Bool) → alert_due r o ≡ t
-        → P (cond t (written 0 o.next (alert_of o.next (place axis.0)) b) (silent o.number o.next b))
+        → P (cond t (written ACCEPTED o.next (alert_of o.next (place axis.0)) b) (silent o.verdict o.next b))
     due room true e =
-        alert room (eqb-true o.number 0 (and_left (eqb o.number 0) (rests r) (and_left (eqb o.number 0 && rests r) _ e)))
+        alert room (accepted_is o.verdict (and_left (is_ok o.verdict) (rests r) (and_left (is_ok o.verdict && rests r) _ e)))
     due room false e = quiet
 
-    go : (t : Bool) → ltb (length b) 96 ≡ t → P (cond t (silent NOROOM d b) (told r (place axis.0) o b))
+    go : (t : Bool) → ltb (length b) 96 ≡ t → P (cond t (silent (Err NoRoom) d b) (told r (place axis.0) o b))
     go true e = small (ltb-true (length b) 96 e)
     go false e = due (ltb-false (length b) 96 e) (alert_due r o) refl
-
-pub report_small : (d : Device) (axis kind last : Number) (b : List ℕ) → (report d axis kind last b).answer.number ≤ 22
-unfolding silent written
-report_small d axis kind last b =
-    by_report (λ s. s.answer.number ≤ 22) d axis kind last b (λ h. omega arith) (λ h z. omega arith)
-    (outcome_small d axis (report_of kind last))
 
 -- an alert has 18 bytes at most
 pub report_within : (d : Device) (axis kind last : Number) (b : List ℕ) → (report d axis kind last b).answer.length ≤ 18

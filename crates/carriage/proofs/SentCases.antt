@@ -1,5 +1,6 @@
 -- Cases of 02's order 5, as one table under one statement: what came before, a line or a motor report with the room lent for it, the number
 -- and every message that is sent. Over the very definitions that `step` and `report` promise, by computation.
+use Rattle.std.specs.Prelude.{Err}
 use mathlib.Core.Path.{◌≡◌, refl}
 use mathlib.Core.List.{List, [], ◌∷◌, ◌++◌, map}
 use Prim.Native.Nat.{ℕ, ◌-◌}
@@ -7,7 +8,8 @@ use Prim.Native.String.{String}
 use lib.IntN.{pos}
 use lib.ListN.{replicate}
 use Rattle.laws.specs.Text.{text}
-use Rattle.laws.specs.Refusals.{ACCEPTED, NOROOM, NOTMINE, BADDATA, BADAXIS, DEVICEONLY, BADREPORT}
+use Rattle.laws.specs.declared.Refusal.TheVariants.{NoRoom, NotMine, BadData, BadAxis, DeviceOnly, BadReport}
+use Rattle.laws.specs.Refusals.{ACCEPTED, Verdict}
 use Rattle.units.specs.Units.{number}
 use Rattle.axis.specs.RaisedWarnings.{raise, raised}
 use Rattle.axis.specs.Reports.{report_of}
@@ -39,11 +41,11 @@ alerting = asked "/set comm.alert 1\n" 96 ∷ homing
 pub record Case : Type 0 where
   pub before : List Event
   pub event : Event
-  pub number : ℕ
+  pub verdict : Verdict
   pub sent : List String
 
-abbrev case : List Event → Event → ℕ → List String → Case
-case b e n t = record { before = b; event = e; number = n; sent = t }
+abbrev case : List Event → Event → Verdict → List String → Case
+case b e v t = record { before = b; event = e; verdict = v; sent = t }
 
 abbrev infos : List String
 infos =
@@ -64,16 +66,16 @@ unfoldable pub cases : List Case
 cases =
     -- `help commands`: its room; a rejected one writes the reply alone
     case [] (asked "/help commands\n" longest_answer) ACCEPTED ("@01 0 OK IDLE WR 0:3E\r\n" ∷ infos)
-    ∷ case [] (asked "/help commands\n" (longest_answer - 1)) NOROOM []
-    ∷ case [] (asked "/2 help commands\n" longest_answer) NOTMINE []
-    ∷ case [] (asked "/2 help commands\n" (longest_answer - 1)) NOROOM []
-    ∷ case [] (asked "/1 1 help commands\n" longest_answer) DEVICEONLY ("@01 1 RJ IDLE WR DEVICEONLY:79\r\n" ∷ [])
-    ∷ case [] (asked "/1 1 help commands\n" (longest_answer - 1)) NOROOM []
-    ∷ case [] (asked "/1 7 help commands\n" longest_answer) BADAXIS ("@01 0 RJ IDLE WR BADAXIS:70\r\n" ∷ [])
-    ∷ case [] (asked "/help\n" 96) BADDATA ("@01 0 RJ IDLE WR BADDATA:8B\r\n" ∷ [])
-    ∷ case [] (asked "/help x\n" 96) BADDATA ("@01 0 RJ IDLE WR BADDATA:8B\r\n" ∷ [])
-    ∷ case [] (asked "/help commands x\n" 96) BADDATA ("@01 0 RJ IDLE WR BADDATA:8B\r\n" ∷ [])
-    ∷ case [] (asked "/2 help x\n" 96) NOTMINE []
+    ∷ case [] (asked "/help commands\n" (longest_answer - 1)) (Err NoRoom) []
+    ∷ case [] (asked "/2 help commands\n" longest_answer) (Err NotMine) []
+    ∷ case [] (asked "/2 help commands\n" (longest_answer - 1)) (Err NoRoom) []
+    ∷ case [] (asked "/1 1 help commands\n" longest_answer) (Err DeviceOnly) ("@01 1 RJ IDLE WR DEVICEONLY:79\r\n" ∷ [])
+    ∷ case [] (asked "/1 1 help commands\n" (longest_answer - 1)) (Err NoRoom) []
+    ∷ case [] (asked "/1 7 help commands\n" longest_answer) (Err BadAxis) ("@01 0 RJ IDLE WR BADAXIS:70\r\n" ∷ [])
+    ∷ case [] (asked "/help\n" 96) (Err BadData) ("@01 0 RJ IDLE WR BADDATA:8B\r\n" ∷ [])
+    ∷ case [] (asked "/help x\n" 96) (Err BadData) ("@01 0 RJ IDLE WR BADDATA:8B\r\n" ∷ [])
+    ∷ case [] (asked "/help commands x\n" 96) (Err BadData) ("@01 0 RJ IDLE WR BADDATA:8B\r\n" ∷ [])
+    ∷ case [] (asked "/2 help x\n" 96) (Err NotMine) []
     -- reports: an alert on kinds 2 and 3 where comm.alert is 1, of the record after the report
     ∷ case homing (reports 1 3 0 96) ACCEPTED []
     ∷ case alerting (reports 1 3 0 96) ACCEPTED ("!01 1 IDLE --:96\r\n" ∷ [])
@@ -83,16 +85,16 @@ cases =
     ∷ case alerting (reports 1 5 0 96) ACCEPTED []
     ∷ case (alerting ++ reports 1 4 3 96 ∷ []) (reports 1 3 0 96) ACCEPTED ("!01 1 IDLE FS:57\r\n" ∷ [])
     ∷ case (alerting ++ asked "/set comm.checksum 0\n" 96 ∷ []) (reports 1 3 0 96) ACCEPTED ("!01 1 IDLE --\r\n" ∷ [])
-    ∷ case (alerting ++ reports 1 3 0 96 ∷ []) (reports 1 3 0 96) BADREPORT []
+    ∷ case (alerting ++ reports 1 3 0 96 ∷ []) (reports 1 3 0 96) (Err BadReport) []
     -- room for an alert is asked for where none would be written, and before 22
-    ∷ case alerting (reports 1 3 0 95) NOROOM []
-    ∷ case homing (reports 1 5 0 95) NOROOM []
-    ∷ case homing (reports 9 9 0 95) NOROOM []
+    ∷ case alerting (reports 1 3 0 95) (Err NoRoom) []
+    ∷ case homing (reports 1 5 0 95) (Err NoRoom) []
+    ∷ case homing (reports 9 9 0 95) (Err NoRoom) []
     ∷ []
 
 -- the number, and the bytes that are sent
 pub record Said : Type 0 where
-  pub number : ℕ
+  pub verdict : Verdict
   pub bytes : List ℕ
 
 abbrev answer : Device → Event → Stepped
@@ -101,10 +103,10 @@ answer d (motor axis kind last b) = report d axis kind last b
 
 unfoldable pub said : Case → Said
 said c =
-    let s = answer (reached fresh_device c.before) c.event in record { number = s.answer.number; bytes = sent_in s }
+    let s = answer (reached fresh_device c.before) c.event in record { verdict = s.answer.verdict; bytes = sent_in s }
 
 unfoldable pub wanted : Case → Said
-wanted c = record { number = c.number; bytes = joined (map text c.sent) }
+wanted c = record { verdict = c.verdict; bytes = joined (map text c.sent) }
 
 pub sent_cases : map said cases ≡ map wanted cases
 unfolding answering fresh_device reached report Device.report report_refusal bad_report is_axis report_of raise raised alert_of alert alert_body

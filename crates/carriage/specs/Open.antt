@@ -65,7 +65,7 @@ unfolding DeviceEffects.next DeviceEffects.obey DeviceRefusals.bad_axis DeviceRe
 open_device = 0
 
 unfoldable open_data : ℕ
-unfolding Data.values Data.warnings_in Data.warning_list Data.echoed Data.refusals Data.name_in Data.refusal_name
+unfolding Data.values Data.warnings_in Data.warning_list Data.echoed Data.refusal_name
 open_data = 0
 
 unfoldable open_reply : ℕ

@@ -17,9 +17,9 @@ use axis::reports::Report;
 use command::Command;
 use command::kinds::Demands;
 use device::Device;
-use laws::{ACCEPTED, BADSTATE, NOROOM, NOTMINE, NOWHERE};
-use line::{LineRead, Opening};
-use phrase::WordsRead;
+use laws::{Refusal, RefusedAt};
+use line::{Addressed, Opening};
+use phrase::Worded;
 use reply::help::HELP_TEXTS;
 use reply::told::{Told, put_told};
 use reply::{Head, LONGEST_ANSWER, LONGEST_REPLY, put_end, put_head};
@@ -28,10 +28,10 @@ use units::Number;
 // As many bytes of words as every reply has room for.
 const MOST_WORDS: usize = 74;
 
-// The answer to a line: the number, the reply's length, and the next record.
+// The answer to a line: accepted or refused, the reply's length, and the next record.
 #[derive(Clone, Copy)]
 pub struct Answer {
-    pub number: u8,
+    pub verdict: Result<(), Refusal>,
     pub length: usize,
     pub next: Device,
 }
@@ -40,8 +40,8 @@ pub struct Answer {
 // with its axis, the places in the line between which the words stand that it carries, and what it demands.
 #[derive(Clone, Copy)]
 pub enum Ruling {
-    Silent(u8),
-    Rejected(u64, u8),
+    Silent(Refusal),
+    Rejected(u64, Refusal),
     Accepted(u64, usize, usize, Command, Demands),
 }
 
@@ -62,71 +62,68 @@ fn heading_of(d: Device, k: u64, ok: bool) -> Heading
 }
 
 // Is the line sent to one device, which is another?
-fn foreign(own: u64, o: Opening) -> bool
+fn foreign(own: u64, o: Result<Opening, RefusedAt>) -> bool
     ensures { result ≡ foreignTo own o }
 {
     match o {
-        Opening::Silent(_, _) => false,
-        Opening::Bare(_) => false,
-        Opening::To(a, _, _) => !((a == 0) | (a == own)),
+        Err(_) => false,
+        Ok(Opening::Bare(_)) => false,
+        Ok(Opening::To(a, _, _)) => !((a == 0) | (a == own)),
     }
 }
 
 // How many bytes the answer to a command's words may take: a reply's, and each info line's.
-fn words_room(w: WordsRead) -> usize
+fn words_room(w: Result<Worded, RefusedAt>) -> usize
     ensures { result ≡ words_room w }
 {
-    match w {
-        WordsRead::Refused(_, _) => LONGEST_REPLY,
-        WordsRead::Command(c, _) => {
-            let x = c.form().demands();
-            let shown = x.reply;
-            if shown.informs() {
-                LONGEST_ANSWER
-            } else {
-                LONGEST_REPLY
-            }
-        }
+    let Ok(x) = w else {
+        return LONGEST_REPLY;
+    };
+    let shown = x.command.form().demands().reply;
+    if shown.informs() {
+        LONGEST_ANSWER
+    } else {
+        LONGEST_REPLY
     }
 }
 
 // And the answer to what was read.
-pub fn room_for(r: LineRead) -> usize
+pub fn room_for(r: Result<Addressed, RefusedAt>) -> usize
     ensures { result ≡ room_for r }
 {
     match r {
-        LineRead::Silent(_, _) => LONGEST_REPLY,
-        LineRead::Addressed(_, _, _, w) => words_room(w),
+        Err(_) => LONGEST_REPLY,
+        Ok(x) => words_room(x.words),
     }
 }
 
 // What was read, where there is room for the answer to it. A buffer with room for every answer is asked for first, since then nothing
 // is looked up.
-fn with_room(r: LineRead, room: usize) -> LineRead
+fn with_room(r: Result<Addressed, RefusedAt>, room: usize) -> Result<Addressed, RefusedAt>
     ensures { result ≡ roomy room r }
 {
     if LONGEST_ANSWER <= room {
         return r;
     }
     if room < room_for(r) {
-        return LineRead::Silent(NOROOM, NOWHERE);
+        return Err(Refusal::NoRoom.nowhere());
     }
     r
 }
 
 // What a device of this address hears of a line: no more than its address, where that is another's and there is room for every answer.
-fn hear(own: u64, good: bool, line: &[u8], room: usize) -> LineRead
+fn hear(own: u64, good: bool, line: &[u8], room: usize) -> Result<Addressed, RefusedAt>
     ensures { result ≡ heard own good line.now room }
 {
     if room < LONGEST_REPLY {
-        return LineRead::Silent(NOROOM, NOWHERE);
+        return Err(Refusal::NoRoom.nowhere());
     }
     if !good {
-        return LineRead::Silent(BADSTATE, NOWHERE);
+        return Err(Refusal::BadState.nowhere());
     }
     let o = line::reading::open_line(line);
     if (LONGEST_ANSWER <= room) & foreign(own, o) {
-        return LineRead::Silent(NOTMINE, NOWHERE);
+        return Err(Refusal::NotMine.nowhere());
     }
     with_room(line::reading::read_line(line, o), room)
 }
@@ -142,18 +139,16 @@ pub fn concerns(d: Device, address: u64) -> bool
 }
 
 // The reader's refusal, or the first that its command meets.
-fn rule_words(d: Device, k: u64, end: usize, w: WordsRead) -> Ruling
+fn rule_words(d: Device, k: u64, end: usize, w: Result<Worded, RefusedAt>) -> Ruling
     ensures { result ≡ rule_words d k end w }
 {
     match w {
-        WordsRead::Refused(n, _) => Ruling::Rejected(k, n),
-        WordsRead::Command(c, from) => {
-            let x = rules::refusals::rule(d, k, c);
-            let demands = x.demands;
-            if x.number == 0 {
-                Ruling::Accepted(k, from, end, c, demands)
-            } else {
-                Ruling::Rejected(k, x.number)
+        Err(e) => Ruling::Rejected(k, e.refusal),
+        Ok(x) => {
+            let ruled = rules::refusals::rule(d, k, x.command);
+            match ruled.verdict {
+                Ok(()) => Ruling::Accepted(k, x.from, end, x.command, ruled.demands),
+                Err(n) => Ruling::Rejected(k, n),
             }
         }
     }
@@ -164,20 +159,20 @@ pub fn refused_at(d: Device, line: &[u8]) -> u8
     ensures { result ≡ refused_at d line.now }
 {
     let own = d.comm.address.place() as u64;
-    hear(own, d.good(), line, LONGEST_ANSWER).place()
+    line::place_read(hear(own, d.good(), line, LONGEST_ANSWER))
 }
 
 // What was read comes to this for the record.
-pub fn rule(d: Device, r: LineRead) -> Ruling
+pub fn rule(d: Device, r: Result<Addressed, RefusedAt>) -> Ruling
     ensures { result ≡ rule_of d r }
 {
     match r {
-        LineRead::Silent(n, _) => Ruling::Silent(n),
-        LineRead::Addressed(address, axis, end, w) => {
-            if concerns(d, address) {
-                rule_words(d, axis, end, w)
+        Err(e) => Ruling::Silent(e.refusal),
+        Ok(x) => {
+            if concerns(d, x.address) {
+                rule_words(d, x.axis, x.end, x.words)
             } else {
-                Ruling::Silent(NOTMINE)
+                Ruling::Silent(Refusal::NotMine)
             }
         }
     }
@@ -237,14 +232,14 @@ pub fn step(mut d: Device, line: &[u8], reply: &mut [u8]) -> Answer
 {
     let good = d.good();
     let own = d.comm.address.place() as u64;
-    let mut number = ACCEPTED;
+    let mut verdict = Ok(());
     let mut length: usize = 0;
     match rule(d, hear(own, good, line, reply.len())) {
         Ruling::Silent(n) => {
-            number = n;
+            verdict = Err(n);
         }
         Ruling::Rejected(k, n) => {
-            number = n;
+            verdict = Err(n);
             length = put_reply(heading_of(d, k, false), Told::Name(n), line, reply);
         }
         Ruling::Accepted(k, from, end, c, x) => {
@@ -257,23 +252,27 @@ pub fn step(mut d: Device, line: &[u8], reply: &mut [u8]) -> Answer
         }
     }
     Answer {
-        number,
+        verdict,
         length,
         next: d,
     }
 }
 
 // What a device hears of what was read: 20 or 21 where there is no room for a reply, or its record is not good.
-fn overhear(good: bool, read: LineRead, rest: usize) -> LineRead
+fn overhear(
+    good: bool,
+    read: Result<Addressed, RefusedAt>,
+    rest: usize,
+) -> Result<Addressed, RefusedAt>
     ensures { result ≡ overheard good read rest }
 {
     if rest < LONGEST_REPLY {
-        return LineRead::Silent(NOROOM, NOWHERE);
+        return Err(Refusal::NoRoom.nowhere());
     }
     if good {
         with_room(read, rest)
     } else {
-        LineRead::Silent(BADSTATE, NOWHERE)
+        Err(Refusal::BadState.nowhere())
     }
 }
 
@@ -291,19 +290,24 @@ fn end_within(from: usize, end: usize) -> usize
 }
 
 // What was read of a line makes of a record and a buffer, as `step` does: for a line that is read once for several records.
-pub fn respond(mut d: Device, r: LineRead, line: &[u8], reply: &mut [u8]) -> Answer
+pub fn respond(
+    mut d: Device,
+    r: Result<Addressed, RefusedAt>,
+    line: &[u8],
+    reply: &mut [u8],
+) -> Answer
     ensures { Gives (respond_to d line.now r reply.old) result reply.new }
 {
     let good = d.good();
-    let mut number = ACCEPTED;
+    let mut verdict = Ok(());
     let mut length: usize = 0;
     match rule(d, overhear(good, r, reply.len())) {
         Ruling::Silent(n) => {
-            number = n;
+            verdict = Err(n);
         }
-        Ruling::Rejected(k, n) => {
-            number = n;
-            length = put_reply(heading_of(d, k, false), Told::Name(number), line, reply);
+        Ruling::Rejected(k, refusal) => {
+            verdict = Err(refusal);
+            length = put_reply(heading_of(d, k, false), Told::Name(refusal), line, reply);
         }
         Ruling::Accepted(k, from, end, c, x) => {
             let shown = x.reply;
@@ -315,7 +319,7 @@ pub fn respond(mut d: Device, r: LineRead, line: &[u8], reply: &mut [u8]) -> Ans
         }
     }
     Answer {
-        number,
+        verdict,
         length,
         next: d,
     }
@@ -330,11 +334,11 @@ fn put_alert(h: Heading, alert: &mut [u8]) -> usize
     put_end(alert, end, h.sum)
 }
 
-// Is an alert due for a report that came to this number, where comm.alert is so?
-fn alert_wanted(number: u8, r: Report, alert: Number) -> bool
-    ensures { result ≡ alert_wanted number r alert }
+// Is an alert due for a report that came to this, where comm.alert is so?
+fn alert_wanted(verdict: Result<(), Refusal>, r: Report, alert: Number) -> bool
+    ensures { result ≡ alert_wanted verdict r alert }
 {
-    (number == 0) & axis::reports::rests(r) & (alert.place() == 1)
+    verdict.is_ok() & axis::reports::rests(r) & (alert.place() == 1)
 }
 
 // What a motor report makes of a record and of a buffer, in which its alert stands, if one is due.
@@ -343,7 +347,7 @@ pub fn report(d: Device, axis: Number, kind: Number, last: Number, alert: &mut [
 {
     if alert.len() < LONGEST_REPLY {
         return Answer {
-            number: NOROOM,
+            verdict: Err(Refusal::NoRoom),
             length: 0,
             next: d,
         };
@@ -352,11 +356,11 @@ pub fn report(d: Device, axis: Number, kind: Number, last: Number, alert: &mut [
     let o = rules::reports::report(d, axis, r);
     let next = o.next;
     let mut length: usize = 0;
-    if alert_wanted(o.number, r, next.comm.alert) {
+    if alert_wanted(o.verdict, r, next.comm.alert) {
         length = put_alert(heading_of(next, axis.place() as u64, true), alert);
     }
     Answer {
-        number: o.number,
+        verdict: o.verdict,
         length,
         next,
     }

@@ -1,5 +1,6 @@
 -- Lines to the four devices of the program `cable`, two of them of one address, and to chains that are refused, as one table: the records,
 -- the line, the room, the number and each place's answer. Over the very definitions that `chain` promises, by computation.
+use Rattle.std.specs.Prelude.{Err}
 use mathlib.Core.Path.{◌≡◌, refl}
 use mathlib.Core.List.{List, [], ◌∷◌, map}
 use Prim.Native.Nat.{ℕ}
@@ -7,14 +8,15 @@ use Prim.Native.String.{String}
 use lib.IntN.{pos}
 use lib.ListN.{replicate}
 use Rattle.laws.specs.Text.{text}
-use Rattle.laws.specs.Refusals.{ACCEPTED, NOTLINE, TOOLONG, BADSUM, BADADDRESS, NOTMINE, NOROOM, BADSTATE}
+use Rattle.laws.specs.declared.Refusal.TheVariants.{NotLine, TooLong, BadSum, BadAddress, NotMine, NoRoom, BadState}
+use Rattle.laws.specs.Refusals.{ACCEPTED, Verdict}
 use Rattle.units.specs.Units.{number}
 use Rattle.phrase.specs.Reading.{read_help}
 use Rattle.device.specs.declared.Device.{Device}
 use Rattle.device.specs.Record.{fresh}
 use Rattle.reply.specs.Reply.{joined}
 use Rattle.carriage.specs.Open.{answering}
-use Rattle.chain.specs.Chain.{blank, next_of, text_of, number_of, refusal, refusal_of, chain}
+use Rattle.chain.specs.Chain.{blank, next_of, text_of, verdict_of, refusal, refusal_of, chain}
 
 -- address, how many axes, device id
 abbrev device : ℕ → ℕ → ℕ → Device
@@ -35,15 +37,15 @@ pub record Case : Type 0 where
   pub devices : List Device
   pub line : String
   pub room : ℕ
-  pub number : ℕ
+  pub verdict : Verdict
   pub answers : List (List ℕ)
 
-abbrev case : List Device → String → ℕ → ℕ → List String → Case
-case xs l b n ts = record { devices = xs; line = l; room = b; number = n; answers = map text ts }
+abbrev case : List Device → String → ℕ → Verdict → List String → Case
+case xs l b v ts = record { devices = xs; line = l; room = b; verdict = v; answers = map text ts }
 
 -- the same where an answer is several messages, one behind the other
 abbrev told : List Device → String → ℕ → List (List String) → Case
-told xs l b tss = record { devices = xs; line = l; room = b; number = ACCEPTED; answers = map (λ ts. joined (map text ts)) tss }
+told xs l b tss = record { devices = xs; line = l; room = b; verdict = ACCEPTED; answers = map (λ ts. joined (map text ts)) tss }
 
 -- the answers to `help commands` of devices 1, 2 and 9
 abbrev helped1 : List String
@@ -83,54 +85,54 @@ cases =
     ("@01 0 RJ IDLE WR BADCOMMAND:A6\r\n" ∷ "@02 0 RJ IDLE WR BADCOMMAND:A5\r\n" ∷ "@01 0 RJ IDLE WR BADCOMMAND:A6\r\n"
     ∷ "@09 0 RJ IDLE WR BADCOMMAND:9E\r\n" ∷ [])
     -- the line's 1 to 4, and 5
-    ∷ case cable "home\n" 384 NOTLINE nothing
-    ∷ case cable "/tools echo aaaaaaaaaaaaaaaaaaaaaaaaaaaaaaaaaaaaaaaaaaaaaaaaaaaaaaaaaaaaaaaaaaaa\n" 384 TOOLONG nothing
-    ∷ case cable "/1 home:00\n" 384 BADSUM nothing
-    ∷ case cable "/+1 home\n" 384 BADADDRESS nothing
-    ∷ case cable "/5 nonsense\n" 384 NOTMINE nothing
+    ∷ case cable "home\n" 384 (Err NotLine) nothing
+    ∷ case cable "/tools echo aaaaaaaaaaaaaaaaaaaaaaaaaaaaaaaaaaaaaaaaaaaaaaaaaaaaaaaaaaaaaaaaaaaa\n" 384 (Err TooLong) nothing
+    ∷ case cable "/1 home:00\n" 384 (Err BadSum) nothing
+    ∷ case cable "/+1 home\n" 384 (Err BadAddress) nothing
+    ∷ case cable "/5 nonsense\n" 384 (Err NotMine) nothing
     -- a record changes where it stands, and is heeded by its address before the line
     ∷ case cable "/9 0 set comm.address 2\n" 384 ACCEPTED ("" ∷ "" ∷ "" ∷ "@02 0 OK IDLE WR 0:3D\r\n" ∷ [])
     ∷ case (after "/9 0 set comm.address 2\n" cable) "/2 get deviceid\n" 384 ACCEPTED
     ("" ∷ "@02 0 OK IDLE WR 101:DB\r\n" ∷ "" ∷ "@02 0 OK IDLE WR 103:D9\r\n" ∷ [])
-    ∷ case (after "/9 0 set comm.address 2\n" cable) "/9 get deviceid\n" 384 NOTMINE nothing
+    ∷ case (after "/9 0 set comm.address 2\n" cable) "/9 get deviceid\n" 384 (Err NotMine) nothing
     -- refusals, before the line is read: 20, then 21
-    ∷ case cable "/get deviceid\n" 383 NOROOM []
-    ∷ case [] "/get deviceid\n" 384 NOROOM []
-    ∷ case (replicate 17 (device 1 2 100)) "/get deviceid\n" 1632 NOROOM []
-    ∷ case (replicate 16 (device 1 2 100)) "/5 home\n" 1536 NOTMINE (replicate 16 "")
-    ∷ case spoilt "home\n" 192 BADSTATE []
-    ∷ case spoilt "home\n" 191 NOROOM []
+    ∷ case cable "/get deviceid\n" 383 (Err NoRoom) []
+    ∷ case [] "/get deviceid\n" 384 (Err NoRoom) []
+    ∷ case (replicate 17 (device 1 2 100)) "/get deviceid\n" 1632 (Err NoRoom) []
+    ∷ case (replicate 16 (device 1 2 100)) "/5 home\n" 1536 (Err NotMine) (replicate 16 "")
+    ∷ case spoilt "home\n" 192 (Err BadState) []
+    ∷ case spoilt "home\n" 191 (Err NoRoom) []
     -- order 5: a reply and its info lines, device by device; 96 bytes for each of them, times the records, whomever the line concerns
     ∷ told cable "/help commands\n" 4608 (helped1 ∷ helped2 ∷ helped1 ∷ helped9 ∷ [])
     ∷ told cable "/2 0 help commands\n" 4608 ([] ∷ helped2 ∷ [] ∷ [] ∷ [])
-    ∷ case cable "/help commands\n" 4607 NOROOM []
-    ∷ case cable "/2 help commands\n" 4607 NOROOM []
-    ∷ case cable "/5 help commands\n" 4607 NOROOM []
-    ∷ case cable "/5 help commands\n" 4608 NOTMINE nothing
-    ∷ case cable "/2 3 help commands\n" 4607 NOROOM []
+    ∷ case cable "/help commands\n" 4607 (Err NoRoom) []
+    ∷ case cable "/2 help commands\n" 4607 (Err NoRoom) []
+    ∷ case cable "/5 help commands\n" 4607 (Err NoRoom) []
+    ∷ case cable "/5 help commands\n" 4608 (Err NotMine) nothing
+    ∷ case cable "/2 3 help commands\n" 4607 (Err NoRoom) []
     ∷ case cable "/2 3 help commands\n" 4608 ACCEPTED ("" ∷ "@02 0 RJ IDLE WR BADAXIS:6F\r\n" ∷ "" ∷ "" ∷ [])
     ∷ case cable "/2 help\n" 384 ACCEPTED ("" ∷ "@02 0 RJ IDLE WR BADDATA:8A\r\n" ∷ "" ∷ "" ∷ [])
-    ∷ case cable "/1 home:00\n" 4607 BADSUM nothing
-    ∷ case spoilt "/help commands\n" 192 BADSTATE []
+    ∷ case cable "/1 home:00\n" 4607 (Err BadSum) nothing
+    ∷ case spoilt "/help commands\n" 192 (Err BadState) []
     ∷ []
 
 -- the number, and the bytes of each place's answer
 pub record Said : Type 0 where
-  pub number : ℕ
+  pub verdict : Verdict
   pub answers : List (List ℕ)
 
 unfoldable pub said : Case → Said
 said c =
-    let s = chain c.devices (text c.line) c.room in record { number = s.number; answers = s.answers }
+    let s = chain c.devices (text c.line) c.room in record { verdict = s.verdict; answers = s.answers }
 
 unfoldable pub wanted : Case → Said
-wanted c = record { number = c.number; answers = c.answers }
+wanted c = record { verdict = c.verdict; answers = c.answers }
 
 pub all_cases : map said cases ≡ map wanted cases
-unfolding answering cable spoilt blank next_of text_of number_of refusal refusal_of chain cases said wanted joined read_help
+unfolding answering cable spoilt blank next_of text_of verdict_of refusal refusal_of chain cases said wanted joined read_help
 all_cases = refl
 
 -- "Replies follow in chain order": the bytes that a call leaves
 pub in_order : joined (chain cable (text "/1 get deviceid\n") 384).answers ≡ text "@01 0 OK IDLE WR 100:DD\r\n@01 0 OK IDLE WR 102:DB\r\n"
-unfolding answering cable blank next_of text_of number_of refusal refusal_of chain joined
+unfolding answering cable blank next_of text_of verdict_of refusal refusal_of chain joined
 in_order = refl

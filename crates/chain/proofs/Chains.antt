@@ -1,5 +1,9 @@
 -- The walk over the records comes to what specs/Chain.antt says: each record is answered as if it heard the line alone.
 -- Assumes nothing.
+use Rattle.std.specs.Prelude.{Ok, Err, Result, is_ok, is_err}
+use Rattle.laws.specs.declared.Refusal.TheVariants.{NoRoom, BadState, NotMine}
+use Rattle.laws.specs.declared.RefusedAt.{RefusedAt}
+use Rattle.laws.specs.declared.Refusal.{Refusal}
 use mathlib.Core.Path.{◌≡◌, refl, sym, ap, subst⁻¹, ◌∙◌}
 use mathlib.Core.Bool.{Bool, true, false, cond, not, ◌&&◌}
 use mathlib.Core.List.{List, [], ◌∷◌, ◌++◌, map, append_assoc}
@@ -9,16 +13,15 @@ use native.Mathlib.Nat.{zero-add, add-zero, add_assoc, mul-le-mul}
 use lib.Dec.{eqb, ltb}
 use lib.ListN.{length, take, drop, length-append, length-drop, take-append-drop}
 use lib.Seq.{take_at, drop_at, drop-drop, length-take-le}
-use borrow.Author.Tests.{eqb-true, eqb-false, eq-eqb, ne_eqb, ltb-false, lt-ltb, le-ltb}
+use borrow.Author.Tests.{eqb-false, eq-eqb, ne_eqb, ltb-false, lt-ltb, le-ltb}
 use Rattle.laws.specs.Lists.{fold, all}
-use Rattle.laws.specs.Refusals.{first_of}
+use Rattle.laws.specs.Refusals.{first_of, refusal_at, Verdict, ACCEPTED}
 use Rattle.laws.proofs.Bools.{and_left, and_right, not_false}
 use Rattle.laws.proofs.Refusals.{unmet, below}
-use Rattle.phrase.specs.declared.WordsRead.{WordsRead}
-use Rattle.line.specs.declared.LineRead.{LineRead}
-use Rattle.line.specs.declared.LineRead.TheVariants.{Silent, Addressed}
+use Rattle.phrase.specs.Reading.{WordsRead}
+use Rattle.line.specs.Reading.{LineRead, read_line, sent}
+use Rattle.line.specs.declared.Addressed.{Addressed}
 use Rattle.line.specs.declared.Opening.{Opening}
-use Rattle.line.specs.Reading.{read_line}
 use Rattle.line.specs.Opening.{open_line, read_on}
 use Rattle.line.proofs.Opened.{opened_read}
 use Rattle.device.specs.declared.Device.{Device}
@@ -31,8 +34,8 @@ use Rattle.carriage.proofs.AnswerRoom.{most_room}
 use Rattle.carriage.proofs.ReadOnce.{read_once}
 use Rattle.chain.specs.declared.Pass.{Pass}
 use Rattle.chain.specs.declared.Told.{Told}
-use Rattle.chain.specs.Walk.{heeds, Taken, taken, Run, run, Walked, begun, told}
-use Rattle.chain.specs.Chain.{next_of, text_of, number_of, refusal, refusal_of, refused, responds, refuses, chain, Gives}
+use Rattle.chain.specs.Walk.{heeds, Taken, taken, Run, run, Walked, begun, told, unless}
+use Rattle.chain.specs.Chain.{next_of, text_of, verdict_of, refusal, refusal_of, refused, responds, refuses, chain, Gives}
 use Rattle.chain.proofs.Alone.{alone, text_short, quiet_next, quiet_text, aloud_text}
 use Rattle.chain.proofs.Walks.{taken_obeyed, taken_idle}
 
@@ -135,19 +138,19 @@ module _ (l : List ℕ) where
       })
 
   -- a refusal is heeded by none
-  unheeded : (xs : List Device) (n p k : ℕ) (b : List ℕ)
-      → run l xs (record { read = Silent n p; place = k }) b ≡ record {
+  unheeded : (xs : List Device) (u : RefusedAt) (k : ℕ) (b : List ℕ)
+      → run l xs (record { read = Err u; place = k }) b ≡ record {
         devices = xs;
-        pass = record { read = Silent n p; place = k };
+        pass = record { read = Err u; place = k };
         buffer = b;
       }
   unfolding run
-  unheeded [] n p k b = refl
-  unheeded (d ∷ ds) n p k b = rw (taken_idle l d (record { read = Silent n p; place = k }) b refl, unheeded ds n p k b)
+  unheeded [] u k b = refl
+  unheeded (d ∷ ds) u k b = rw (taken_idle l d (record { read = Err u; place = k }) b refl, unheeded ds u k b)
 
-  -- ---- the number: "5 if it concerns none, else 0"
-  module _ (a k end : ℕ) (w : WordsRead) (is : read_line l ≡ Addressed a k end w) where
-    no_text : (xs : List Device) → all good xs ≡ true → eqb (length (texts l xs)) 0 ≡ all (λ d. not_mine d (Addressed a k end w)) xs
+  -- ---- what it comes to: "5 if it concerns none, else 0"
+  module _ (a k end : ℕ) (w : WordsRead) (is : read_line l ≡ Ok (sent a k end w)) where
+    no_text : (xs : List Device) → all good xs ≡ true → eqb (length (texts l xs)) 0 ≡ all (λ d. not_mine d (Ok (sent a k end w))) xs
     unfolding fold joined
     no_text [] g = refl
     no_text (d ∷ ds) g = go (concerns d a) refl (no_text ds (and_right (good d) (all good ds) g))
@@ -155,67 +158,63 @@ module _ (l : List ℕ) where
         one : good d ≡ true
         one = and_left (good d) (all good ds) g
 
-        go : (t : Bool) → concerns d a ≡ t → eqb (length (texts l ds)) 0 ≡ all (λ d. not_mine d (Addressed a k end w)) ds
-            → eqb (length (text_of l d ++ texts l ds)) 0 ≡ (not t && all (λ d. not_mine d (Addressed a k end w)) ds)
+        go : (t : Bool) → concerns d a ≡ t → eqb (length (texts l ds)) 0 ≡ all (λ d. not_mine d (Ok (sent a k end w))) ds
+            → eqb (length (text_of l d ++ texts l ds)) 0 ≡ (not t && all (λ d. not_mine d (Ok (sent a k end w))) ds)
         go true e rest = ne_eqb (length (text_of l d ++ texts l ds)) 0
-            (λ z. aloud_text d l one (Addressed a k end w) is e (omega (arith, z, length-append (text_of l d) (texts l ds))))
+            (λ z. aloud_text d l one (Ok (sent a k end w)) is e (omega (arith, z, length-append (text_of l d) (texts l ds))))
         go false e rest = rw (quiet_text d l one (rw is e)) rest
 
-  pub told_number : (xs : List Device) → all good xs ≡ true → (length xs ≡ 0 → ⊥) → (r : LineRead) → read_line l ≡ r
-      → (told r (length (texts l xs))).number ≡ number_of l xs
-  unfolding number_of first_of fold
-  told_number xs g some (Addressed a k end w) e = rw (e, no_text a k end w e xs g)
-  told_number [] g some (Silent n p) e = absurd (some refl)
-  told_number (d ∷ ds) g some (Silent n p) e = rw e (go (eqb n 0) refl)
-    where
-      go : (t : Bool) → eqb n 0 ≡ t → n ≡ cond (not t) n 0
-      go true q = eqb-true n 0 q
-      go false q = refl
+  pub told_verdict : (xs : List Device) → all good xs ≡ true → (length xs ≡ 0 → ⊥) → (r : LineRead) → read_line l ≡ r
+      → (told r (length (texts l xs))).verdict ≡ verdict_of l xs
+  unfolding verdict_of first_of fold
+  told_verdict xs g some (Ok x) e = rw (e, no_text x.address x.axis x.end x.words e xs g)
+  told_verdict [] g some (Err u) e = absurd (some refl)
+  told_verdict (d ∷ ds) g some (Err u) e = rw e
 
 -- ---- what is told at the end
 module _ {r : LineRead} (place : ℕ) where
-  pub told_silent : (n p : ℕ) → r ≡ Silent n p → record { number = n; length = place } ≡ told r place
-  told_silent n p e = rw e
+  pub told_silent : (u : RefusedAt) → r ≡ Err u → record { verdict = Err u.refusal; length = place } ≡ told r place
+  told_silent u e = rw e
 
-  module _ (a k end : ℕ) (w : WordsRead) (e : r ≡ Addressed a k end w) where
-    pub told_none : place ≡ 0 → record { number = 5; length = place } ≡ told r place
+  module _ (x : Addressed) (e : r ≡ Ok x) where
+    pub told_none : place ≡ 0 → record { verdict = Err NotMine; length = place } ≡ told r place
     told_none z = rw (e, eq-eqb place 0 z)
 
-    pub told_some : (place ≡ 0 → ⊥) → record { number = 0; length = place } ≡ told r place
+    pub told_some : (place ≡ 0 → ⊥) → record { verdict = ACCEPTED; length = place } ≡ told r place
     told_some z = rw (e, ne_eqb place 0 z)
 
 told_length : (r : LineRead) (k : ℕ) → (told r k).length ≡ k
-told_length (Silent n p) k = refl
-told_length (Addressed a i end w) k = refl
+told_length (Err e) k = refl
+told_length (Ok x) k = refl
 
 -- ---- the refusals, as the tests of the code have them
 module _ (n room : ℕ) (g : Bool) where
-  pub refused_long : 16 < n → 20 ≡ refusal n room g
+  pub refused_long : 16 < n → Err NoRoom ≡ refusal n room g
   unfolding refusal first_of
   refused_long h = rw (lt-ltb 16 n h) (go (ltb room (96 * n)) (eqb n 0))
     where
-      go : (t u : Bool) → ◌≡◌ {A = ℕ} 20 (cond t 20 (cond u 20 20))
+      go : (t u : Bool) → ◌≡◌ {A = Verdict} (Err NoRoom) (cond t (Err NoRoom) (cond u (Err NoRoom) (Err NoRoom)))
       go true u = refl
       go false true = refl
       go false false = refl
 
-  pub refused_none : n ≡ 0 → 20 ≡ refusal n room g
+  pub refused_none : n ≡ 0 → Err NoRoom ≡ refusal n room g
   unfolding refusal first_of
   refused_none h = rw (eq-eqb n 0 h) (go (ltb room (96 * n)))
     where
-      go : (t : Bool) → ◌≡◌ {A = ℕ} 20 (cond t 20 20)
+      go : (t : Bool) → ◌≡◌ {A = Verdict} (Err NoRoom) (cond t (Err NoRoom) (Err NoRoom))
       go true = refl
       go false = refl
 
-  pub refused_small : room < 96 * n → 20 ≡ refusal n room g
+  pub refused_small : room < 96 * n → Err NoRoom ≡ refusal n room g
   unfolding refusal first_of
   refused_small h = rw (lt-ltb room (96 * n) h)
 
-  pub unless_bad : n ≤ 16 → (n ≡ 0 → ⊥) → 96 * n ≤ room → {t : Bool} → g ≡ t → cond t 0 21 ≡ refusal n room g
+  pub unless_bad : n ≤ 16 → (n ≡ 0 → ⊥) → 96 * n ≤ room → {t : Bool} → g ≡ t → cond t ACCEPTED (Err BadState) ≡ refusal n room g
   unfolding refusal first_of
   unless_bad few some large e = rw (le-ltb 16 n few, ne_eqb n 0 some, le-ltb room (96 * n) large, ← e) (go g)
     where
-      go : (t : Bool) → ◌≡◌ {A = ℕ} (cond t 0 21) (cond (not t) 21 0)
+      go : (t : Bool) → ◌≡◌ {A = Verdict} (cond t ACCEPTED (Err BadState)) (cond (not t) (Err BadState) ACCEPTED)
       go true = refl
       go false = refl
 
@@ -225,58 +224,57 @@ all_within n few r {k} is = mul-le-mul {n₁ = k} {m₁ = n} {n₂ = longest_ans
 
 -- with what was read: a refusal of before goes first, and then there is room for every answer to it, or not
 module _ (n room : ℕ) (g : Bool) (r : LineRead) where
-  pub refused_early : (refusal n room g ≡ 0 → ⊥) → refusal n room g ≡ refusal_of n room g r
+  pub refused_early : (m : Refusal) → refusal n room g ≡ Err m → Err m ≡ refusal_of n room g r
   unfolding refusal_of first_of
-  refused_early h = rw (ne_eqb (refusal n room g) 0 h)
+  refused_early m h = rw h
 
-  module _ (e : refusal n room g ≡ 0) where
-    pub refused_short : room < room_for r * n → 20 ≡ refusal_of n room g r
+  module _ (e : refusal n room g ≡ ACCEPTED) where
+    pub refused_short : room < room_for r * n → Err NoRoom ≡ refusal_of n room g r
     unfolding refusal_of first_of
     refused_short h = rw (e, lt-ltb room (room_for r * n) h)
 
-    pub refused_not : room_for r * n ≤ room → 0 ≡ refusal_of n room g r
+    pub refused_not : room_for r * n ≤ room → ACCEPTED ≡ refusal_of n room g r
     unfolding refusal_of first_of
     refused_not h = rw (e, le-ltb room (room_for r * n) h)
 
 -- ---- no refusal
-module _ (n room : ℕ) (g : Bool) (r : LineRead) (e : refusal_of n room g r ≡ 0) where
-  pub none_early : refusal n room g ≡ 0
+module _ (n room : ℕ) (g : Bool) (r : LineRead) (e : refusal_of n room g r ≡ ACCEPTED) where
+  pub none_early : refusal n room g ≡ ACCEPTED
   unfolding refusal_of first_of
-  none_early = go (refusal n room g) (eqb (refusal n room g) 0) refl e
+  none_early = go (refusal n room g) e
     where
-      go : (m : ℕ) (t : Bool) → eqb m 0 ≡ t → cond (not t) m (cond (ltb room (room_for r * n)) 20 0) ≡ 0 → m ≡ 0
-      go m true q h = eqb-true m 0 q
-      go m false q h = h
+      go : (v : Verdict) → cond (is_err v) v (cond (ltb room (room_for r * n)) (Err NoRoom) ACCEPTED) ≡ ACCEPTED → v ≡ ACCEPTED
+      go (Ok u) h = refl
+      go (Err m) h = h
 
   has_room : room_for r * n ≤ room
   unfolding refusal_of first_of
-  has_room = ltb-false room (room_for r * n) (unmet 19 (ltb room (room_for r * n)) [] (rw none_early at e))
+  has_room = ltb-false room (room_for r * n) (unmet NoRoom (ltb room (room_for r * n)) [] (rw none_early at e))
 
 -- ---- none before the line is read
-module _ (n room : ℕ) (g : Bool) (e : refusal n room g ≡ 0) where
+module _ (n room : ℕ) (g : Bool) (e : refusal n room g ≡ ACCEPTED) where
   pub some : n ≡ 0 → ⊥
   unfolding refusal
-  some = eqb-false n 0 (unmet 19 (eqb n 0) _ (below 19 (ltb room (96 * n)) _ e))
+  some = eqb-false n 0 (unmet NoRoom (eqb n 0) _ (below NoRoom (ltb room (96 * n)) _ e))
 
   pub few : n ≤ 16
   unfolding refusal
-  few = ltb-false 16 n (unmet 19 (ltb 16 n) _ (below 19 (eqb n 0) _ (below 19 (ltb room (96 * n)) _ e)))
+  few = ltb-false 16 n (unmet NoRoom (ltb 16 n) _ (below NoRoom (eqb n 0) _ (below NoRoom (ltb room (96 * n)) _ e)))
 
   pub all_are : g ≡ true
   unfolding refusal
-  all_are = not_false g (unmet 20 (not g) _ (below 19 (ltb 16 n) _ (below 19 (eqb n 0) _ (below 19 (ltb room (96 * n)) _ e))))
+  all_are = not_false g (unmet BadState (not g) _ (below NoRoom (ltb 16 n) _ (below NoRoom (eqb n 0) _ (below NoRoom (ltb room (96 * n)) _ e))))
 
 -- ---- the line is read, unless the chain is refused
-module _ (n room : ℕ) (g : Bool) (l : List ℕ) {m : ℕ} (e : m ≡ refusal n room g) where
-  pub begun_refused : (m ≡ 0 → ⊥) → record { read = Silent m 255; place = 0 } ≡ begun n room g l
-  begun_refused z =
-      let early = refused_early n room g (read_line l) (λ q. z (e ∙ q)) in rw (← early, ← e, ne_eqb m 0 z)
+module _ (n room : ℕ) (g : Bool) (l : List ℕ) {v : Verdict} (e : v ≡ refusal n room g) where
+  pub begun_refused : (m : Refusal) → v ≡ Err m → record { read = Err (refusal_at m 255); place = 0 } ≡ begun n room g l
+  begun_refused m z = rw (← refused_early n room g (read_line l) m (sym e ∙ z))
 
-  module _ (z : m ≡ 0) {o : Opening} {r : LineRead} (p : o ≡ open_line l) (q : r ≡ read_on l o) where
+  module _ (z : v ≡ ACCEPTED) {o : Result Opening RefusedAt} {r : LineRead} (p : o ≡ open_line l) (q : r ≡ read_on l o) where
     is_line : r ≡ read_line l
     is_line = q ∙ ap (read_on l) p ∙ opened_read l
 
-    pub begun_short : {k : ℕ} → k ≡ room_for r * n → room < k → record { read = Silent 20 255; place = 0 } ≡ begun n room g l
+    pub begun_short : {k : ℕ} → k ≡ room_for r * n → room < k → record { read = Err (refusal_at NoRoom 255); place = 0 } ≡ begun n room g l
     begun_short is h =
         let short = refused_short n room g (read_line l) (sym e ∙ z) (rw (is, is_line) at h) in rw (← short)
 
@@ -288,10 +286,7 @@ module _ (n room : ℕ) (g : Bool) (l : List ℕ) {m : ℕ} (e : m ≡ refusal n
 -- ---- the walk of `chain`, from its beginning on
 module _ (xs : List Device) (l b : List ℕ) {g : Bool} {p : Pass} (e : g ≡ all good xs) (f : p ≡ begun (length xs) (length b) g l)
   where
-    begins : p ≡ record {
-      read = cond (eqb (refused xs l (length b)) 0) (read_line l) (Silent (refused xs l (length b)) 255);
-      place = 0;
-    }
+    begins : p ≡ record { read = unless (refused xs l (length b)) (read_line l); place = 0 }
     begins = f ∙ ap (λ (t : Bool). begun (length xs) (length b) t l) e
 
     pub begun_fits : p.place ≤ length b
@@ -300,37 +295,31 @@ module _ (xs : List Device) (l b : List ℕ) {g : Bool} {p : Pass} (e : g ≡ al
     pub chained : {ys : List Device} {c : List ℕ} {q : Pass} {r : Told} → Walked l p xs ys b c q → r ≡ told q.read q.place
         → Gives (chain xs l (length b)) b r ys c
     unfolding chain joined fold
-    chained {ys} {c} {q} {r} w k = go (eqb (refused xs l (length b)) 0) refl
+    chained {ys} {c} {q} {r} w k = go (refused xs l (length b)) refl
       where
-        start : (t : Bool) → eqb (refused xs l (length b)) 0 ≡ t → p ≡ record {
-          read = cond t (read_line l)
-              (Silent (refused xs l (length b)) 255);
-          place = 0;
-        }
-        start t h = begins ∙ rw h
+        start : (v : Verdict) → refused xs l (length b) ≡ v → p ≡ record { read = unless v (read_line l); place = 0 }
+        start v h = begins ∙ rw h
 
-        go : (t : Bool) → eqb (refused xs l (length b)) 0 ≡ t
-            → Gives (cond t (responds l xs) (refuses (refused xs l (length b)) xs)) b r ys c
-        go true h =
-            let none = eqb-true (refused xs l (length b)) 0 h in
+        go : (v : Verdict) → refused xs l (length b) ≡ v → Gives (cond (is_ok v) (responds l xs) (refuses v xs)) b r ys c
+        go (Ok u) none =
             let z = none_early (length xs) (length b) (all good xs) (read_line l) none in
             let all-good = all_are (length xs) (length b) (all good xs) z in
-            let is : p.read ≡ read_line l = ap (λ (x : Pass). x.read) (start true h) in
-            let at : p.place ≡ 0 = ap (λ (x : Pass). x.place) (start true h) in
+            let is : p.read ≡ read_line l = ap (λ (x : Pass). x.read) (start ACCEPTED none) in
+            let at : p.place ≡ 0 = ap (λ (x : Pass). x.place) (start ACCEPTED none) in
             let t = ran l xs p b is all-good (omega (arith, at, has_room (length xs) (length b) (all good xs) (read_line l) none)) in
             let read : q.read ≡ read_line l = ap (λ (x : Pass). x.read) w.pass ∙ t.read ∙ is in
             let long : q.place ≡ length (texts l xs) = ap (λ (x : Pass). x.place) w.pass ∙ t.place
             ∙ rw at (zero-add (length (texts l xs))) in
-            let number = told_number l xs all-good (some (length xs) (length b) (all good xs) z) (read_line l) refl in
+            let verdict = told_verdict l xs all-good (some (length xs) (length b) (all good xs) z) (read_line l) refl in
             record {
               result = k ∙ rw (read, long)
-                  (ap (λ (n : ℕ). record { number = n; length = (told (read_line l) (length (texts l xs))).length }) number
-                  ∙ ap (λ (n : ℕ). record { number = number_of l xs; length = n }) (told_length (read_line l) (length (texts l xs))));
+                  (ap (λ (v : Verdict). record { verdict = v; length = (told (read_line l) (length (texts l xs))).length }) verdict
+                  ∙ ap (λ (n : ℕ). record { verdict = verdict_of l xs; length = n }) (told_length (read_line l) (length (texts l xs))));
               devices = w.devices ∙ t.devices;
               left = w.buffer ∙ t.buffer ∙ rw (at, zero-add);
             }
-        go false h =
-            let i = ap (λ (x : Pass). run l xs x b) (start false h) ∙ unheeded l xs (refused xs l (length b)) 255 0 b in
+        go (Err n) h =
+            let i = ap (λ (x : Pass). run l xs x b) (start (Err n) h) ∙ unheeded l xs (refusal_at n 255) 0 b in
             record {
               result = k ∙ ap (λ (x : Run). told x.pass.read x.pass.place)
                   (ap (λ (x : Pass). record { devices = xs; pass = x; buffer = b }) (w.pass ∙ ap (λ (x : Run). x.pass) i));

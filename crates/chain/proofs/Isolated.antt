@@ -1,11 +1,11 @@
 -- Order 2's statement: "with all records good and buffers of the same length, two chains of the same length that differ only in the records
 -- at other places give this place the same reply and the same next record, for every line"; and the same info lines. Assumes nothing.
+use Rattle.std.specs.Prelude.{is_ok}
 use mathlib.Core.Path.{◌≡◌, refl, sym, ap, ◌∙◌}
 use mathlib.Core.Bool.{Bool, true, false, cond}
 use mathlib.Core.List.{List, [], ◌∷◌, map}
 use Prim.Native.Nat.{ℕ, zero, suc, ◌<◌}
 use native.Mathlib.Omega.{arith}
-use lib.Dec.{eqb}
 use lib.ListN.{length, take, drop, get_or}
 use Rattle.laws.specs.Lists.{all}
 use Rattle.line.specs.Reading.{read_line}
@@ -31,7 +31,7 @@ pub isolated : (xs ys : List Device) (l b c : List ℕ) (i : ℕ) (d : Device) �
     → length xs ≡ length ys → length b ≡ length c → i < length xs → get_or xs i d ≡ get_or ys i d
     → Same i d (chain xs l (length b)) (chain ys l (length c))
 unfolding chain
-isolated xs ys l b c i d g h n m k e = rw (sym m, both) (go (eqb (refused xs l (length b)) 0))
+isolated xs ys l b c i d g h n m k e = rw (sym m, both) (go (is_ok (refused xs l (length b))))
   where
     both : refusal_of (length ys) (length b) (all good ys) (read_line l) ≡ refusal_of (length xs) (length b) (all good xs) (read_line l)
     both = rw (n, g, h)

@@ -1,5 +1,9 @@
 -- A chain whose number is not 0 leaves all records and all bytes as they were; and a chain of good records stays good, whatever the line.
 -- Assumes nothing.
+use Rattle.laws.specs.declared.Refusal.TheVariants.{NotMine}
+use Rattle.laws.specs.declared.RefusedAt.{RefusedAt}
+use Rattle.std.specs.Prelude.{Ok, Err, is_ok}
+use Rattle.laws.proofs.Refusals.{accepted_is}
 use mathlib.Core.Path.{◌≡◌, refl, sym, ap, ◌∙◌}
 use mathlib.Core.Bool.{Bool, true, false, cond}
 use mathlib.Core.List.{List, [], ◌∷◌, map}
@@ -10,18 +14,17 @@ use lib.ListN.{length, length-append}
 use borrow.Author.Tests.{eqb-true}
 use Rattle.laws.specs.Lists.{fold, all}
 use Rattle.laws.proofs.Bools.{and_left, and_right, and_both}
-use Rattle.line.specs.declared.LineRead.{LineRead}
-use Rattle.line.specs.declared.LineRead.TheVariants.{Silent, Addressed}
-use Rattle.line.specs.Reading.{read_line}
+use Rattle.line.specs.Reading.{LineRead, read_line, sent}
 use Rattle.device.specs.declared.Device.{Device}
 use Rattle.device.specs.Good.{good}
 use Rattle.reply.specs.Reply.{joined}
 use Rattle.carriage.proofs.Demands.{good_goes_on}
 use Rattle.chain.specs.declared.Told.{Told}
 use Rattle.chain.specs.Walk.{heeds}
-use Rattle.chain.specs.Chain.{blank, next_of, text_of, number_of, refused, Chained, responds, refuses, chain, Gives}
+use Rattle.chain.specs.Chain.{blank, next_of, text_of, verdict_of, refused, Chained, responds, refuses, chain, Gives}
 use Rattle.chain.proofs.Alone.{quiet_next, quiet_text, aloud_text}
-use Rattle.chain.proofs.Chains.{texts, told_number, none_early, some, all_are}
+use Rattle.chain.proofs.Chains.{texts, told_verdict, none_early, some, all_are}
+use Rattle.laws.specs.Refusals.{ACCEPTED}
 
 -- nothing is written, and the records stay
 pub record Kept (xs : List Device) (s : Chained) : Type 0 where
@@ -47,40 +50,40 @@ module _ (l : List ℕ) where
           let rest = ih (omega (arith, z, length-append (text_of l d) (texts l ds))) in
           (rw (quiet_next d l one e, rest.0), rw (quiet_text d l one e) rest.1)
 
-  silent_texts : (n p : ℕ) → read_line l ≡ Silent n p → (xs : List Device) → all good xs ≡ true → length (texts l xs) ≡ 0
+  silent_texts : (u : RefusedAt) → read_line l ≡ Err u → (xs : List Device) → all good xs ≡ true → length (texts l xs) ≡ 0
   unfolding fold joined
-  silent_texts n p e [] g = refl
-  silent_texts n p e (d ∷ ds) g =
-      rw (quiet_text d l (and_left (good d) (all good ds) g) (rw e refl)) (silent_texts n p e ds (and_right (good d) (all good ds) g))
+  silent_texts u e [] g = refl
+  silent_texts u e (d ∷ ds) g =
+      rw (quiet_text d l (and_left (good d) (all good ds) g) (rw e refl)) (silent_texts u e ds (and_right (good d) (all good ds) g))
 
-  -- where the number is not 0, no record has answered
-  no_texts : (xs : List Device) → all good xs ≡ true → (length xs ≡ 0 → ⊥) → (number_of l xs ≡ 0 → ⊥) → length (texts l xs) ≡ 0
+  -- where the line is refused, no record has answered
+  no_texts : (xs : List Device) → all good xs ≡ true → (length xs ≡ 0 → ⊥) → (verdict_of l xs ≡ ACCEPTED → ⊥) → length (texts l xs) ≡ 0
   no_texts xs g some h = go (read_line l) refl
     where
       k : ℕ
       k = length (texts l xs)
 
       go : (r : LineRead) → read_line l ≡ r → k ≡ 0
-      go (Silent n p) e = silent_texts n p e xs g
-      go (Addressed a i end w) e = test (eqb k 0) refl
+      go (Err u) e = silent_texts u e xs g
+      go (Ok x) e = test (eqb k 0) refl
         where
-          number : cond (eqb k 0) 5 0 ≡ number_of l xs
-          number = told_number l xs g some (Addressed a i end w) e
+          verdict : cond (eqb k 0) (Err NotMine) ACCEPTED ≡ verdict_of l xs
+          verdict = told_verdict l xs g some (Ok (sent x.address x.axis x.end x.words)) e
 
           test : (t : Bool) → eqb k 0 ≡ t → k ≡ 0
           test true q = eqb-true k 0 q
-          test false q = absurd (h (sym number ∙ rw q))
+          test false q = absurd (h (sym verdict ∙ rw q))
 
 -- "NOROOM ... BADSTATE", the line's 1 to 4, and 5
-pub refusal_keeps : (xs : List Device) (l : List ℕ) (room : ℕ) → ((chain xs l room).number ≡ 0 → ⊥) → Kept xs (chain xs l room)
+pub refusal_keeps : (xs : List Device) (l : List ℕ) (room : ℕ) → ((chain xs l room).verdict ≡ ACCEPTED → ⊥) → Kept xs (chain xs l room)
 unfolding chain joined fold
-refusal_keeps xs l room = go (eqb (refused xs l room) 0) refl
+refusal_keeps xs l room = go (is_ok (refused xs l room)) refl
   where
-    go : (t : Bool) → eqb (refused xs l room) 0 ≡ t
-        → ((cond t (responds l xs) (refuses (refused xs l room) xs)).number ≡ 0 → ⊥)
+    go : (t : Bool) → is_ok (refused xs l room) ≡ t
+        → ((cond t (responds l xs) (refuses (refused xs l room) xs)).verdict ≡ ACCEPTED → ⊥)
         → Kept xs (cond t (responds l xs) (refuses (refused xs l room) xs))
     go true e h =
-        let z = none_early (length xs) room (all good xs) (read_line l) (eqb-true (refused xs l room) 0 e) in
+        let z = none_early (length xs) room (all good xs) (read_line l) (accepted_is (refused xs l room) e) in
         let g = all_are (length xs) room (all good xs) z in
         let q = quiet_all l xs g (no_texts l xs g (some (length xs) room (all good xs) z) h) in
         record { devices = q.0; answers = q.1 }
@@ -88,9 +91,9 @@ refusal_keeps xs l room = go (eqb (refused xs l room) 0) refl
 
 -- the same of a call: all records and all bytes, and the length is 0
 pub refused_call : (xs : List Device) (l b : List ℕ) {r : Told} {ys : List Device} {c : List ℕ} → Gives (chain xs l (length b)) b r ys c
-    → (r.number ≡ 0 → ⊥) → (ys ≡ xs) × (c ≡ b) × (r.length ≡ 0)
+    → (r.verdict ≡ ACCEPTED → ⊥) → (ys ≡ xs) × (c ≡ b) × (r.length ≡ 0)
 refused_call xs l b {r} g h =
-    let k = refusal_keeps xs l (length b) (λ z. h (ap (λ (t : Told). t.number) g.result ∙ z)) in
+    let k = refusal_keeps xs l (length b) (λ z. h (ap (λ (t : Told). t.verdict) g.result ∙ z)) in
     (g.devices ∙ k.devices, g.left ∙ rw k.answers, ap (λ (t : Told). t.length) g.result ∙ rw k.answers)
 
 -- ---- "BADSTATE if any record is not good" is met by a chain that was good once only if someone else changes a record
@@ -103,7 +106,7 @@ next_good l (d ∷ ds) g =
 
 pub good_stays : (xs : List Device) (l : List ℕ) (room : ℕ) → all good xs ≡ true → all good (chain xs l room).devices ≡ true
 unfolding chain
-good_stays xs l room g = go (eqb (refused xs l room) 0)
+good_stays xs l room g = go (is_ok (refused xs l room))
   where
     go : (t : Bool) → all good (cond t (responds l xs) (refuses (refused xs l room) xs)).devices ≡ true
     go true = next_good l xs g

@@ -11,7 +11,7 @@ use lib.Seq.{take-suc, drop-cons, take_all, length-take-le, set_at, append_snoc,
 use Rattle.std.proofs.lemmas.List.{set-get_or}
 use Rattle.laws.proofs.Lists.{rest}
 use Rattle.buffer.proofs.Wrote.{rest_over}
-use Rattle.line.specs.declared.LineRead.{LineRead}
+use Rattle.line.specs.Reading.{LineRead}
 use Rattle.device.specs.declared.Device.{Device}
 use Rattle.carriage.specs.declared.Answer.{Answer}
 use Rattle.carriage.specs.Step.{Gives}

@@ -1,10 +1,9 @@
 -- What the walk over the records does, record by record, and what is carried from one to the next.
 -- The inner functions promise it; proofs/Chains.antt shows that it comes to what Chain.antt says.
-use Rattle.std.specs.Prelude.{◌≡◌, Bool, false, cond, List, [], ◌∷◌, ◌++◌, ℕ, ◌+◌, ◌≤◌, eqb, length, take, drop}
-use Rattle.laws.specs.Refusals.{NOTMINE, NOWHERE}
-use Rattle.line.specs.declared.LineRead.{LineRead}
-use Rattle.line.specs.declared.LineRead.TheVariants.{Silent, Addressed}
-use Rattle.line.specs.Reading.{read_line}
+use Rattle.std.specs.Prelude.{◌≡◌, Bool, false, cond, List, [], ◌∷◌, ◌++◌, ℕ, ◌+◌, ◌≤◌, eqb, length, take, drop, Ok, Err}
+use Rattle.laws.specs.declared.Refusal.TheVariants.{NotMine}
+use Rattle.laws.specs.Refusals.{NOWHERE, refusal_at, Verdict, ACCEPTED}
+use Rattle.line.specs.Reading.{LineRead, read_line}
 use Rattle.device.specs.declared.Device.{Device}
 use Rattle.carriage.specs.Step.{Stepped, concerns}
 use Rattle.carriage.specs.ReadOnce.{respond_to}
@@ -22,8 +21,8 @@ pub record Taken : Type 0 where
 
 -- "each record that the line concerns": by its address before the line
 abbrev pub heeds : Device → LineRead → Bool
-heeds d (Silent n p) = false
-heeds d (Addressed a k end w) = concerns d a
+heeds d (Err e) = false
+heeds d (Ok x) = concerns d x.address
 
 -- what it answers in the rest of the buffer
 abbrev pub responded : List ℕ → Device → Pass → List ℕ → Stepped
@@ -72,12 +71,14 @@ pub record Walked (l : List ℕ) (p : Pass) (xs ys : List Device) (b c : List �
 
 -- ---- before the walk and after it
 
--- what is read of the line for the whole chain: nothing but its number, where the chain is refused
+-- what is read of the line for the whole chain: nothing but the refusal, where the chain is refused
+abbrev pub unless : Verdict → LineRead → LineRead
+unless (Ok u) r = r
+unless (Err n) r = Err (refusal_at n NOWHERE)
+
 abbrev pub begun : ℕ → ℕ → Bool → List ℕ → Pass
-begun n room allGood l =
-    let refused = refusal_of n room allGood (read_line l) in
-    record { read = cond (eqb refused 0) (read_line l) (Silent refused NOWHERE); place = 0 }
+begun n room allGood l = record { read = unless (refusal_of n room allGood (read_line l)) (read_line l); place = 0 }
 
 abbrev pub told : LineRead → ℕ → Told
-told (Silent n p) place = record { number = n; length = place }
-told (Addressed a k end w) place = record { number = cond (eqb place 0) NOTMINE 0; length = place }
+told (Err e) place = record { verdict = Err e.refusal; length = place }
+told (Ok x) place = record { verdict = cond (eqb place 0) (Err NotMine) ACCEPTED; length = place }

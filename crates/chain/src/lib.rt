@@ -11,8 +11,8 @@ ghost use Rattle.chain.specs.Walk.{heeds as heedsOf, obeyed, Fits, Took, Walked,
 
 use carriage::{respond, room_for};
 use device::Device;
-use laws::{ACCEPTED, BADSTATE, NOROOM, NOTMINE, NOWHERE};
-use line::LineRead;
+use laws::{Refusal, RefusedAt};
+use line::Addressed;
 use reply::LONGEST_REPLY;
 
 // "up to 16"
@@ -21,7 +21,7 @@ pub const LONGEST_CHAIN: usize = 16;
 // What is carried from one record to the next: what was read of the line, and the place behind the answers so far.
 #[derive(Clone, Copy)]
 struct Pass {
-    read: LineRead,
+    read: Result<Addressed, RefusedAt>,
     place: usize,
 }
 
@@ -32,10 +32,10 @@ struct Turn {
     pass: Pass,
 }
 
-// What a line came to: the number, and the length of all answers together.
+// What a line came to: accepted or refused, and the length of all answers together.
 #[derive(Clone, Copy)]
 pub struct Told {
-    pub number: u8,
+    pub verdict: Result<(), Refusal>,
     pub length: usize,
 }
 
@@ -45,8 +45,8 @@ fn heeds(d: Device, p: Pass) -> bool
 {
     let read = p.read;
     match read {
-        LineRead::Silent(_, _) => false,
-        LineRead::Addressed(address, _, _, _) => carriage::concerns(d, address),
+        Err(_) => false,
+        Ok(x) => carriage::concerns(d, x.address),
     }
 }
 
@@ -67,23 +67,23 @@ fn take_turn(d: Device, line: &[u8], reply: &mut [u8], p: Pass) -> Turn
 }
 
 // 20, then 21, both before the line is read. How many records there are is asked first, so that the product fits its type.
-fn refusal(n: usize, room: usize, good: bool) -> u8
+fn refusal(n: usize, room: usize, good: bool) -> Result<(), Refusal>
     ensures { result ≡ refusal_of n room good }
 {
     if LONGEST_CHAIN < n {
-        return NOROOM;
+        return Err(Refusal::NoRoom);
     }
     if n == 0 {
-        return NOROOM;
+        return Err(Refusal::NoRoom);
     }
     if room < LONGEST_REPLY * n {
-        return NOROOM;
+        return Err(Refusal::NoRoom);
     }
-    if good { ACCEPTED } else { BADSTATE }
+    if good { Ok(()) } else { Err(Refusal::BadState) }
 }
 
 // As many bytes may the answers of n records to what was read take.
-fn room_for_all(read: LineRead, n: usize) -> usize
+fn room_for_all(read: Result<Addressed, RefusedAt>, n: usize) -> usize
     requires { n ≤ longest_chain }
     ensures { result ≡ room_for read * n }
 {
@@ -94,34 +94,34 @@ fn room_for_all(read: LineRead, n: usize) -> usize
 fn begin(n: usize, room: usize, good: bool, line: &[u8]) -> Pass
     ensures { result ≡ begun n room good line.now }
 {
-    let refused = refusal(n, room, good);
-    if refused != 0 {
+    if let Err(refused) = refusal(n, room, good) {
         return Pass {
-            read: LineRead::Silent(refused, NOWHERE),
+            read: Err(refused.nowhere()),
             place: 0,
         };
     }
     let read = line::reading::read_line(line, line::reading::open_line(line));
     if room < room_for_all(read, n) {
         return Pass {
-            read: LineRead::Silent(NOROOM, NOWHERE),
+            read: Err(Refusal::NoRoom.nowhere()),
             place: 0,
         };
     }
     Pass { read, place: 0 }
 }
 
-// The line's own number; 5 where no record has answered.
+// The line's own refusal; 5 where no record has answered.
 fn finish(p: Pass) -> Told
     ensures { result ≡ told p.read p.place }
 {
     let read = p.read;
     let length = p.place;
-    let number = match read {
-        LineRead::Silent(n, _) => n,
-        LineRead::Addressed(_address, _, _, _) => if length == 0 { NOTMINE } else { ACCEPTED },
+    let verdict = match read {
+        Err(e) => Err(e.refusal),
+        Ok(_) if length == 0 => Err(Refusal::NotMine),
+        Ok(_) => Ok(()),
     };
-    Told { number, length }
+    Told { verdict, length }
 }
 
 // Is this record good too?

@@ -1,5 +1,6 @@
 -- What a turn of a chain prints and leaves, as the code makes it.
 -- Assumes nothing.
+use Rattle.laws.specs.declared.Refusal.TheVariants.{BadReport}
 use mathlib.Core.Path.{◌≡◌, refl, sym, ap, ◌∙◌}
 use mathlib.Core.Bool.{Bool, true, false, cond}
 use mathlib.Core.List.{List, [], ◌++◌, append_assoc}
@@ -20,12 +21,13 @@ use Rattle.carriage.specs.declared.Answer.{Answer}
 use Rattle.carriage.specs.Step.{Stepped, Gives}
 use Rattle.carriage.specs.Report.{report}
 use Rattle.chain.specs.Chain.{chain}
-use Rattle.std.specs.Prelude.{Option}
+use Rattle.std.specs.Prelude.{Option, Err}
 use Rattle.input.specs.declared.parts.Turned.{Turned}
 use Rattle.input.specs.declared.reports.MotorReport.{MotorReport}
 use Rattle.input.specs.declared.reports.PlacedReport.{PlacedReport}
 use Rattle.input.specs.ReportLines.{read_placed}
 use Rattle.input.specs.Prints.{is_report, told, reported, answered}
+use Rattle.laws.specs.Refusals.{number_of}
 use Rattle.chain_session.specs.declared.Cable.{Cable}
 use Rattle.chain_session.specs.declared.Heard.{Heard}
 use Rattle.chain_session.specs.Held.{records_of, Hears}
@@ -43,7 +45,7 @@ answers_first n j x y =
 module _ (c : Cable) (full : length c.devices ≡ 16) {n : ℕ} (is : n ≡ min c.count 16) (p : List ℕ) {b o : List ℕ} {at r : ℕ} where
   pub took_line : {k : ℕ} → k ≡ longest_answer * n → (rest : List ℕ) {h : Heard} {zs buf : List ℕ}
       → Hears (chain (records_of c) p k) c zs buf h
-      → Wrote b at (answered h.told.number h.told.length (buf ++ rest)) o r → Took (line_turn (records_of c) p) c b at
+      → Wrote b at (answered (number_of h.told.verdict) h.told.length (buf ++ rest)) o r → Took (line_turn (records_of c) p) c b at
       (record { place = r; next = h.next }) o
   unfolding line_turn
   took_line {k} e rest g w =
@@ -52,10 +54,10 @@ module _ (c : Cable) (full : length c.devices ≡ 16) {n : ℕ} (is : n ≡ min 
 
 -- ---- a report
 abbrev none_heard : Cable → Heard
-none_heard c = record { told = record { number = 22; length = 0 }; next = c }
+none_heard c = record { told = record { verdict = Err BadReport; length = 0 }; next = c }
 
 pub reports_none : (c : Cable) (b : List ℕ) → Reports (missed (records_of c)) c (none_heard c) b
-reports_none c b = record { number = refl; alert = refl; next = holding_same c }
+reports_none c b = record { verdict = refl; alert = refl; next = holding_same c }
 
 module _ (c : Cable) (p : ℕ) (m : MotorReport) (b : List ℕ) where
   pub no_place : p ≡ 0 → Reports (outcome_at (records_of c) p m b) c (none_heard c) b
@@ -72,7 +74,7 @@ module _ (c : Cable) (p : ℕ) (m : MotorReport) (b : List ℕ) where
     pub reported_at : (p ≡ 0 → ⊥) → p ≤ n → (d : Device) {a : Answer} {b' : List ℕ}
         → Gives (report (get_or c.devices (p - 1) d) m.axis m.kind m.last b) a b'
         → (let next : Cable = record { devices = set c.devices (p - 1) a.next; count = c.count } in
-        Reports (outcome_at (records_of c) p m b) c (record { told = record { number = a.number; length = a.length }; next = next }) b')
+        Reports (outcome_at (records_of c) p m b) c (record { told = record { verdict = a.verdict; length = a.length }; next = next }) b')
     unfolding outcome_at
     reported_at z h d {a} {b'} g =
         let few : p - 1 < c.count = omega (arith, z, h, is) in
@@ -83,7 +85,7 @@ module _ (c : Cable) (p : ℕ) (m : MotorReport) (b : List ℕ) where
         let left = g.left ∙ ap (λ (s : Stepped). s.buffer) same in
         rw (le-leb 1 p (omega (arith, z)), le-leb p (length (records_of c)) (omega (arith, h, records_count c full is)), ← answer, ← left)
         (record {
-          number = refl;
+          verdict = refl;
           alert = refl;
           next = ap (λ (ds : List Device). record { devices = ds; count = c.count })
               (set_front c.devices c.count (p - 1) a.next few within);
@@ -97,11 +99,11 @@ alert_first n k b {t} e =
 
 module _ (c : Cable) (p : List ℕ) {b o : List ℕ} {at r : ℕ} where
   pub took_report : {q : Option PlacedReport} {x : Heard} {a : List ℕ} → q ≡ read_placed p
-      → Reports (outcome (records_of c) q (replicate 96 0)) c x a → Wrote b at (reported x.told.number x.told.length a) o r
+      → Reports (outcome (records_of c) q (replicate 96 0)) c x a → Wrote b at (reported (number_of x.told.verdict) x.told.length a) o r
       → Took (report_turn (records_of c) (read_placed p)) c b at (record { place = r; next = x.next }) o
   unfolding report_turn
   took_report {a = a} q e w =
-      rw (← q) (record { prints = rw (alert_first _ _ a e.alert, e.number) at w; next = e.next })
+      rw (← q) (record { prints = rw (alert_first _ _ a e.alert, e.verdict) at w; next = e.next })
 
 -- ---- a part
 module _ (c : Cable) (p : List ℕ) {b o : List ℕ} {at : ℕ} {r : Turned Cable} {t : Bool} (said : t ≡ is_report p) where

@@ -1,8 +1,9 @@
 -- What the program `cable` prints, from the bytes of its standard input to those of its standard output. It is for a chain what bench
 -- is for one record: a part is a line or a motor report; it prints one line, or the answers of the chain, or a report and its alert, and
 -- makes the next records.
-use Rattle.std.specs.Prelude.{◌≡◌, Option, None, Some, cond, ◌&&◌, List, [], ◌∷◌, ◌++◌, ℕ, ◌-◌, ◌*◌, leb, pos as plus, length, take, get_or, set, replicate}
-use Rattle.laws.specs.Refusals.{BADREPORT}
+use Rattle.std.specs.Prelude.{◌≡◌, Option, None, Some, cond, ◌&&◌, List, [], ◌∷◌, ◌++◌, ℕ, ◌-◌, ◌*◌, leb, pos as plus, length, take, get_or, set, replicate, Err}
+use Rattle.laws.specs.Refusals.{number_of, Verdict}
+use Rattle.laws.specs.declared.Refusal.TheVariants.{BadReport}
 use Rattle.units.specs.Units.{number, place}
 use Rattle.buffer.specs.Wrote.{Wrote}
 use Rattle.device.specs.declared.Device.{Device}
@@ -23,9 +24,9 @@ use Rattle.chain_session.specs.Held.{holding}
 
 -- ---- a motor report for the record at a place of the chain, counted from 1
 
--- its number, the text of its alert, if it has one, and the next records
+-- what it comes to, the text of its alert, if it has one, and the next records
 pub record Outcome : Type 0 where
-  pub number : ℕ
+  pub verdict : Verdict
   pub alert : List ℕ
   pub next : List Device
 
@@ -40,10 +41,10 @@ record_at xs i = get_or xs i (fresh_as 1 1 0)
 abbrev pub takes : List Device → ℕ → MotorReport → List ℕ → Outcome
 takes xs i r b =
     let s = report (record_at xs i) r.axis r.kind r.last b in
-    record { number = s.answer.number; alert = take s.answer.length s.buffer; next = set xs i s.answer.next }
+    record { verdict = s.answer.verdict; alert = take s.answer.length s.buffer; next = set xs i s.answer.next }
 
 abbrev pub missed : List Device → Outcome
-missed xs = record { number = BADREPORT; alert = []; next = xs }
+missed xs = record { verdict = Err BadReport; alert = []; next = xs }
 
 -- "22 if misspelt, over 80 bytes, without a footer, or if there is no such place"
 unfoldable pub outcome_at : List Device → ℕ → MotorReport → List ℕ → Outcome
@@ -53,9 +54,9 @@ abbrev pub outcome : List Device → Option PlacedReport → List ℕ → Outcom
 outcome xs None b = missed xs
 outcome xs (Some r) b = outcome_at xs (place r.place.0) r.report b
 
--- a number, an alert at the front of the buffer b' and a chain afterwards that are just that
+-- a verdict, an alert at the front of the buffer b' and a chain afterwards that are just that
 pub record Reports (o : Outcome) (c : Cable) (r : Heard) (b' : List ℕ) : Type 0 where
-  pub number : r.told.number ≡ o.number
+  pub verdict : r.told.verdict ≡ o.verdict
   pub alert : take r.told.length b' ≡ o.alert
   pub next : r.next ≡ holding c o.next
 
@@ -70,14 +71,14 @@ pub record Turn : Type 0 where
 unfoldable pub report_turn : List Device → Option PlacedReport → Turn
 report_turn xs r =
     let o = outcome xs r (replicate longest_reply 0) in
-    record { prints = reported o.number (length o.alert) o.alert; next = o.next }
+    record { prints = reported (number_of o.verdict) (length o.alert) o.alert; next = o.next }
 
 -- "it prints the replies one behind the other, or `silent N` where there is none"; with order 5 the buffer that it lends has 96 bytes for
 -- the reply and for each info line of each record
 unfoldable pub line_turn : List Device → List ℕ → Turn
 line_turn xs p =
     let s = chain xs p (longest_answer * length xs) in
-    record { prints = answered s.number (length (joined s.answers)) (joined s.answers); next = s.devices }
+    record { prints = answered (number_of s.verdict) (length (joined s.answers)) (joined s.answers); next = s.devices }
 
 -- "A part whose first byte is `R` is `R device axis kind p` ... Any other part is a line"
 unfoldable pub turn : List Device → List ℕ → Turn

@@ -17,6 +17,6 @@ holding c ys = record { devices = ys ++ drop c.count c.devices; count = c.count 
 
 -- what a line leaves, where s is what it makes of the records
 pub record Hears (s : Chained) (c : Cable) (b b' : List ℕ) (r : Heard) : Type 0 where
-  pub told : r.told ≡ record { number = s.number; length = length (joined s.answers) }
+  pub told : r.told ≡ record { verdict = s.verdict; length = length (joined s.answers) }
   pub next : r.next ≡ holding c s.devices
   pub left : b' ≡ joined s.answers ++ drop (length (joined s.answers)) b

@@ -3,6 +3,7 @@
 #![tactic(auto)]
 
 ghost use Rattle.std.specs.Prelude.{◌≡◌, length};
+ghost use Rattle.laws.specs.declared.Refusal.TheVariants.{BadReport};
 ghost use Rattle.chain.specs.Chain.{chain as chainOf};
 ghost use Rattle.input.specs.ReportLines.{read_placed};
 ghost use Rattle.chain_session.specs.Held.{Hears, records_of};
@@ -12,7 +13,7 @@ use chain::{LONGEST_CHAIN, Told, chain};
 use device::Device;
 use input::parts::{Turned, is_report, put_answer, put_reported};
 use input::reports::{MotorReport, PlacedReport};
-use laws::BADREPORT;
+use laws::{Refusal, number_of};
 use reply::{LONGEST_ANSWER, LONGEST_REPLY};
 use units::Number;
 
@@ -48,10 +49,10 @@ pub fn hear(c: Cable, line: &[u8], reply: &mut [u8]) -> Heard
 
 // A report for no place of the chain, or for none at all.
 fn missed(c: Cable) -> Heard
-    ensures { result ≡ record { told = record { number = 22; length = 0 }; next = c } }
+    ensures { result ≡ record { told = record { verdict = Err BadReport; length = 0 }; next = c } }
 {
     let told = Told {
-        number: BADREPORT,
+        verdict: Err(Refusal::BadReport),
         length: 0,
     };
     Heard { told, next: c }
@@ -70,7 +71,7 @@ fn report_at(mut c: Cable, place: usize, report: MotorReport, alert: &mut [u8]) 
     let a = carriage::report(c.devices[i], axis, kind, last, alert);
     c.devices[i] = a.next;
     let told = Told {
-        number: a.number,
+        verdict: a.verdict,
         length: a.length,
     };
     Heard { told, next: c }
@@ -93,7 +94,7 @@ fn report_turn(c: Cable, part: &[u8], out: &mut [u8], at: usize) -> Turned<Cable
     let told = h.told;
     let next = h.next;
     Turned {
-        place: put_reported(out, at, told.number, told.length, &alert),
+        place: put_reported(out, at, number_of(told.verdict), told.length, &alert),
         next,
     }
 }
@@ -107,7 +108,7 @@ fn line_turn(c: Cable, part: &[u8], out: &mut [u8], at: usize) -> Turned<Cable>
     let told = h.told;
     let next = h.next;
     Turned {
-        place: put_answer(out, at, told.number, told.length, &answers),
+        place: put_answer(out, at, number_of(told.verdict), told.length, &answers),
         next,
     }
 }

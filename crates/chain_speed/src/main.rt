@@ -59,7 +59,10 @@ fn hear_often(first: Cable, line: &[u8], many: usize, reply: &mut [u8]) -> u64 {
     for _ in 0..many {
         let h = chain_session::hear(c, line, reply);
         let told = h.told;
-        sum = added(added(sum, u64::from(told.number)), told.length as u64);
+        sum = added(
+            added(sum, u64::from(laws::number_of(told.verdict))),
+            told.length as u64,
+        );
         c = h.next;
     }
     sum

@@ -1,8 +1,9 @@
 -- When a device record is good, and the fresh record where it may be asked for.
 -- BADSTATE, 21: "record not good; fresh record asked out of range"
-use Rattle.std.specs.Prelude.{Bool, cond, not, ◌&&◌, ℕ, pos as plus}
+use Rattle.std.specs.Prelude.{Bool, cond, not, ◌&&◌, ℕ, pos as plus, Err}
 use Rattle.laws.specs.Lists.{all, any}
-use Rattle.laws.specs.Refusals.{BADSTATE, ACCEPTED}
+use Rattle.laws.specs.declared.Refusal.TheVariants.{BadState}
+use Rattle.laws.specs.Refusals.{ACCEPTED}
 use Rattle.units.specs.Units.{number}
 use Rattle.command.specs.Settings.{device_settings}
 use Rattle.settings.specs.Types.{Number, DeviceSetting, CommAddress, DeviceId, SystemAxisCount}
@@ -30,5 +31,5 @@ may_be_fresh address count id =
 unfoldable pub ask_fresh : Number → ℕ → Number → Outcome
 ask_fresh address count id =
     cond (may_be_fresh address count id)
-    (record { number = ACCEPTED; next = fresh address count id })
-    (record { number = BADSTATE; next = fresh (number (plus 1)) 1 (number (plus 0)) })
+    (record { verdict = ACCEPTED; next = fresh address count id })
+    (record { verdict = Err BadState; next = fresh (number (plus 1)) 1 (number (plus 0)) })

@@ -9,7 +9,7 @@ ghost use Rattle.device.specs.Good.{in_range, good as goodOf, may_be_fresh, ask_
 
 use crate::{Device, Outcome};
 use command::DeviceSetting;
-use laws::{ACCEPTED, BADSTATE};
+use laws::Refusal;
 use settings::device_allows;
 use units::Number;
 
@@ -56,12 +56,12 @@ impl Device {
     {
         if may_be_fresh(address, count, id) {
             Outcome {
-                number: ACCEPTED,
+                verdict: Ok(()),
                 next: Device::new(address, count, id),
             }
         } else {
             Outcome {
-                number: BADSTATE,
+                verdict: Err(Refusal::BadState),
                 next: Device::new(Number(1), 1, Number(0)),
             }
         }

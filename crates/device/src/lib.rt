@@ -7,6 +7,7 @@ ghost use Rattle.device.specs.Record.{value as value_of, fresh_comm, fresh as fr
 
 use axis::Axis;
 use command::DeviceSetting;
+use laws::Refusal;
 use units::Number;
 
 // comm.address, comm.alert and comm.checksum.
@@ -28,10 +29,10 @@ pub struct Device {
     pub axes: [Axis; 4],
 }
 
-// The number of a refusal, or 0, and the next record.
+// Accepted or refused, and the next record.
 #[derive(Clone, Copy)]
 pub struct Outcome {
-    pub number: u8,
+    pub verdict: Result<(), Refusal>,
     pub next: Device,
 }
 

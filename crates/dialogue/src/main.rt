@@ -113,7 +113,7 @@ fn exchange(rt: &impl Print, d: Device, line: &[u8]) -> io::Result<Device> {
 
 fn ask(rt: &impl Print, d: Device, axis: u64, c: Command, sum: bool) -> io::Result<Device> {
     let mut line = [0u8; 80];
-    let w = host_writer::writing::write_command(
+    let written = host_writer::writing::write_command(
         &mut line,
         1,
         axis,
@@ -121,7 +121,7 @@ fn ask(rt: &impl Print, d: Device, axis: u64, c: Command, sum: bool) -> io::Resu
         b"both  axes are at rest",
         sum,
     );
-    exchange(rt, d, field(&line, 0, w.length))
+    exchange(rt, d, field(&line, 0, written.unwrap_or(0)))
 }
 
 // A motor report; its alert comes by itself.

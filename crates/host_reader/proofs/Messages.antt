@@ -1,15 +1,16 @@
 -- A line is read as a message exactly where Spelling writes it for that message; it is written for one message at most, and so
 -- for one of the three kinds. Assumes nothing.
-use mathlib.Core.Path.{◌≡◌, refl, ap, ◌∙◌}
+use Rattle.laws.proofs.Refusals.{not_both}
+use Rattle.laws.specs.declared.Refusal.TheVariants.{NotReply}
+use mathlib.Core.Path.{sym, ◌≡◌, refl, ap, ◌∙◌}
 use mathlib.Core.Logic.{◌↔◌}
 use mathlib.Core.Bool.{Bool, true, false, cond, ◌&&◌}
 use mathlib.Core.List.{List, ◌++◌}
 use Prim.Native.Nat.{ℕ}
-use native.Mathlib.Omega.{arith}
 use lib.Dec.{leb}
 use lib.ListN.{length, take}
 use borrow.Author.Tests.{leb-true}
-use Rattle.std.specs.Prelude.{Option, None, Some, is_some}
+use Rattle.std.specs.Prelude.{Option, None, Some, is_some, Err}
 use Rattle.laws.specs.Text.{text}
 use Rattle.laws.proofs.Spaced.{trail}
 use Rattle.host_reader.specs.Spelling.{Address, Axis, Says}
@@ -51,15 +52,15 @@ pub message_one : {l : List ℕ} {h g : Message} → spelling.Message l h → sp
 message_one p q = cc (message_read p, message_read q)
 
 -- "Otherwise NOTREPLY": where the rules write a line for no message, and only there, the number is 30
-pub not_message : (l : List ℕ) → ((h : Message) → spelling.Message l h → ⊥) → number_of (read_message l) ≡ 30
+pub not_message : (l : List ℕ) → ((h : Message) → spelling.Message l h → ⊥) → number_of (read_message l) ≡ Err NotReply
 not_message l never = go (read_message l) refl
   where
-    go : (r : Option Message) → read_message l ≡ r → number_of r ≡ 30
+    go : (r : Option Message) → read_message l ≡ r → number_of r ≡ Err NotReply
     go (Some h) e = absurd (never h (message_of l h e))
     go None e = refl
 
-pub no_spelling : (l : List ℕ) (h : Message) → number_of (read_message l) ≡ 30 → spelling.Message l h → ⊥
-no_spelling l h e p = let y = rw (message_read p) at e in omega arith
+pub no_spelling : (l : List ℕ) (h : Message) → number_of (read_message l) ≡ Err NotReply → spelling.Message l h → ⊥
+no_spelling l h e p = not_both NotReply (sym (rw (message_read p) at e))
 
 -- ---- the kind, told by the first byte
 abbrev pub kind_of : Said → Kind

@@ -1,9 +1,10 @@
 -- How the host reads a message: its front, what its kind has behind that, each field at its place, and the end behind all.
 -- "The host reads exactly this form ... Otherwise NOTREPLY."
-use Rattle.std.specs.Prelude.{Bool, cond, not, ◌&&◌, ◌||◌, List, [], ◌∷◌, ℕ, zero, suc, ◌+◌, ◌*◌, ◌-◌, eqb, ltb, leb, length, get_or, take, drop, Option, None, Some, is_some, option_and_then}
+use Rattle.std.specs.Prelude.{Bool, cond, not, ◌&&◌, ◌||◌, List, [], ◌∷◌, ℕ, zero, suc, ◌+◌, ◌*◌, ◌-◌, eqb, ltb, leb, length, get_or, take, drop, Option, None, Some, is_some, option_and_then, Err}
 use Rattle.std.specs.Bool.{then_some}
 use Rattle.laws.specs.Lists.{span}
-use Rattle.laws.specs.Refusals.{◌when◌, first_of, ACCEPTED, NOTREPLY}
+use Rattle.laws.specs.declared.Refusal.TheVariants.{NotReply}
+use Rattle.laws.specs.Refusals.{Verdict, ACCEPTED, ◌when◌, first_of}
 use Rattle.laws.specs.Text.{colon, text, same}
 use Rattle.numbers.specs.Reading.{value_of, read_pair, says_sum}
 use Rattle.words.specs.Find.{index}
@@ -169,11 +170,11 @@ is_message l = leb (length l) longest_reply && is_some (message_in l)
 abbrev pub read_message : List ℕ → Option Message
 read_message l = cond (is_message l) (message_in l) None
 
--- document 01's number for each case of the answer
-abbrev pub number_of : Option Message → ℕ
+-- what document 01 says for each case of the answer
+abbrev pub number_of : Option Message → Verdict
 number_of (Some m) = ACCEPTED
-number_of None = NOTREPLY
+number_of None = Err NotReply
 
 -- "Otherwise NOTREPLY."
-abbrev pub message_refusal : List ℕ → ℕ
-message_refusal l = first_of (NOTREPLY when not (is_message l) ∷ [])
+abbrev pub message_refusal : List ℕ → Verdict
+message_refusal l = first_of (NotReply when not (is_message l) ∷ [])

@@ -1,5 +1,8 @@
 -- A whole line: its content piece by piece, its end behind it, and the answers of `write_command`.
 -- Assumes nothing.
+use Rattle.std.specs.Prelude.{Ok, Err, Result}
+use Rattle.laws.specs.declared.Refusal.TheVariants.{NoRoom, TooLong, BadData}
+use Rattle.laws.specs.declared.Refusal.{Refusal}
 use mathlib.Core.Path.{◌≡◌, refl, sym, ap, ◌∙◌}
 use mathlib.Core.Logic.{⊎_elim}
 use mathlib.Core.Bool.{Bool, true, false}
@@ -22,7 +25,6 @@ use Rattle.command.specs.Commands.{command_words}
 use Rattle.buffer.specs.Wrote.{Wrote}
 use Rattle.buffer.proofs.Wrote.{◌▸◌, wrote_room, wrote_read}
 use Rattle.host_writer.specs.Writing.{line_words, front_text, line_end, line_text, unspellable, writer_refusal, Outcome, outcome, write_line}
-use Rattle.host_writer.specs.declared.Written.{Written}
 
 -- what is left of a write where the buffer is full before its end
 full : {b : List ℕ} (p q t : List ℕ) {c : List ℕ} {r : ℕ} → length b ≤ length p → Wrote b 0 (p ++ q) c r → Wrote b 0 (p ++ t) c r
@@ -66,13 +68,13 @@ module _ (address axis : ℕ) (c : Command) (message : List ℕ) where
     t = line_text address axis c message sum
 
     module _ (b : List ℕ) where
-      pub no_room : length b < 80 → outcome (record { number = 20; length = 0 }) b ≡ write_line address axis c message sum b
+      pub no_room : length b < 80 → outcome (Err NoRoom) b ≡ write_line address axis c message sum b
       unfolding write_line writer_refusal first_of
       no_room h = rw (lt-ltb (length b) 80 h)
 
       module _ (room : 80 ≤ length b) where
         pub bad_data_lem : unspellable address axis c message ≡ true
-            → outcome (record { number = 11; length = 0 }) b ≡ write_line address axis c message sum b
+            → outcome (Err BadData) b ≡ write_line address axis c message sum b
         unfolding write_line writer_refusal first_of
         bad_data_lem h = rw (le-ltb (length b) 80 room, h)
 
@@ -81,12 +83,12 @@ module _ (address axis : ℕ) (c : Command) (message : List ℕ) where
           place : end ≡ length (take 81 t)
           place = w.place ∙ rw (zero-add, own)
 
-          pub too_long : 80 < end → outcome (record { number = 2; length = 0 }) b ≡ write_line address axis c message sum b
+          pub too_long : 80 < end → outcome (Err TooLong) b ≡ write_line address axis c message sum b
           unfolding write_line writer_refusal first_of
           too_long h = rw (le-ltb (length b) 80 room, good, lt-ltb 80 (length t) (omega (arith, place, length-take 81 t)))
 
           pub accepted : end ≤ 80 → {d : List ℕ} {r : ℕ} → Wrote b 0 (take end x) d r
-              → outcome (record { number = 0; length = r }) d ≡ write_line address axis c message sum b
+              → outcome (Ok r) d ≡ write_line address axis c message sum b
           unfolding write_line writer_refusal first_of
           accepted h {d} {r} v =
               let short : length t ≤ 80 = omega (arith, place, length-take 81 t) in
@@ -96,5 +98,5 @@ module _ (address axis : ℕ) (c : Command) (message : List ℕ) where
               rw (le-ltb (length b) 80 room, good, le-ltb 80 (length t) short, k.0, k.1, zero-add)
 
 -- the promise of the writer leaves no choice
-pub outcome_one : {x : Outcome} {r q : Written} {b c : List ℕ} → outcome r b ≡ x → outcome q c ≡ x → (r ≡ q) × (b ≡ c)
+pub outcome_one : {x : Outcome} {r q : Result ℕ Refusal} {b c : List ℕ} → outcome r b ≡ x → outcome q c ≡ x → (r ≡ q) × (b ≡ c)
 outcome_one p q = let same = one_answer p q in (ap (λ (o : Outcome). o.answer) same, ap (λ (o : Outcome). o.buffer) same)

@@ -1,9 +1,11 @@
 -- What the host's command writer writes, and what it refuses.
 -- "two address digits, the axis digit, single spaces, decimal numbers, a checksum if asked (upper case) and LF, into 80 bytes or more"
-use Rattle.std.specs.Prelude.{Bool, cond, not, ◌&&◌, ◌||◌, List, [], ◌∷◌, ◌++◌, ℕ, eqb, ltb, length, drop}
+use Rattle.laws.specs.declared.Refusal.{Refusal}
+use Rattle.std.specs.Prelude.{Bool, not, ◌&&◌, ◌||◌, List, [], ◌∷◌, ◌++◌, ℕ, ltb, length, drop, Ok, Err, Result}
 use Rattle.laws.specs.Text.{text, spaced}
 use Rattle.laws.specs.Lists.{all}
-use Rattle.laws.specs.Refusals.{◌when◌, first_of, NOROOM, TOOLONG, BADDATA, ACCEPTED}
+use Rattle.laws.specs.declared.Refusal.TheVariants.{NoRoom, TooLong, BadData}
+use Rattle.laws.specs.Refusals.{◌when◌, first_of, Verdict}
 use Rattle.numbers.specs.Checksum.{sum_text}
 use Rattle.numbers.specs.Decimal.{digits, two_digits}
 use Rattle.numbers.specs.Spelling.{highest_address}
@@ -12,7 +14,6 @@ use Rattle.line.specs.Spelling.{longest_line}
 use Rattle.command.specs.declared.Command.{Command}
 use Rattle.command.specs.Commands.{demands, carries_words, command_words}
 use Rattle.host_reader.specs.Reading.{data_byte}
-use Rattle.host_writer.specs.declared.Written.{Written}
 
 -- "an echo message (parted at its spaces into words)"
 unfoldable pub line_words : ℕ → ℕ → Command → List ℕ → List (List ℕ)
@@ -39,28 +40,28 @@ unfoldable pub unspellable : ℕ → ℕ → Command → List ℕ → Bool
 unspellable address axis c message = ltb highest_address address || ltb 9 axis || unfit c message
 
 -- "The command writer checks 20, 11, 2."
-unfoldable pub writer_refusal : ℕ → ℕ → Command → List ℕ → Bool → List ℕ → ℕ
+unfoldable pub writer_refusal : ℕ → ℕ → Command → List ℕ → Bool → List ℕ → Verdict
 writer_refusal address axis c message sum b =
     first_of
-    (NOROOM when ltb (length b) longest_line
-    ∷ BADDATA when unspellable address axis c message
-    ∷ TOOLONG when ltb longest_line (length (line_text address axis c message sum))
+    (NoRoom when ltb (length b) longest_line
+    ∷ BadData when unspellable address axis c message
+    ∷ TooLong when ltb longest_line (length (line_text address axis c message sum))
     ∷ [])
 
--- the answer, and what is in the buffer then
+-- the line's length or a refusal, and what is in the buffer then
 pub record Outcome : Type 0 where
-  pub answer : Written
+  pub answer : Result ℕ Refusal
   pub buffer : List ℕ
 
-abbrev pub outcome : Written → List ℕ → Outcome
+abbrev pub outcome : Result ℕ Refusal → List ℕ → Outcome
 outcome w b = record { answer = w; buffer = b }
 
+-- the line t, where nothing refuses it: "Buffer bytes after what is written keep their values."
 -- "Refusals of the writer ... give their number alone and write or change nothing."
--- "Accepted is 0. Buffer bytes after what is written keep their values."
+abbrev pub settled : Verdict → List ℕ → List ℕ → Outcome
+settled (Ok u) t b = outcome (Ok (length t)) (t ++ drop (length t) b)
+settled (Err n) t b = outcome (Err n) b
+
 unfoldable pub write_line : ℕ → ℕ → Command → List ℕ → Bool → List ℕ → Outcome
 write_line address axis c message sum b =
-    let n = writer_refusal address axis c message sum b in
-    let t = line_text address axis c message sum in
-    cond (eqb n 0)
-    (outcome (record { number = ACCEPTED; length = length t }) (t ++ drop (length t) b))
-    (outcome (record { number = n; length = 0 }) b)
+    settled (writer_refusal address axis c message sum b) (line_text address axis c message sum) b

@@ -3,11 +3,10 @@
 ghost use Rattle.std.specs.Prelude.{◌≡◌};
 ghost use Rattle.host_writer.specs.Writing.{unfit, unspellable, outcome, write_line};
 
-use crate::Written;
 use crate::lines::put_line;
 use buffer::put_text;
 use command::Command;
-use laws::{ACCEPTED, BADDATA, NOROOM, TOOLONG};
+use laws::Refusal;
 use line::LONGEST_LINE;
 use numbers::HIGHEST_ADDRESS;
 
@@ -40,32 +39,19 @@ pub fn write_command(
     c: Command,
     message: &[u8],
     sum: bool,
-) -> Written
+) -> Result<usize, Refusal>
     ensures { outcome result buf.new ≡ write_line address axis c message.now sum buf.old }
 {
     if buf.len() < LONGEST_LINE {
-        return Written {
-            number: NOROOM,
-            length: 0,
-        };
+        return Err(Refusal::NoRoom);
     }
     if is_unspellable(address, axis, c, message) {
-        return Written {
-            number: BADDATA,
-            length: 0,
-        };
+        return Err(Refusal::BadData);
     }
     let mut line = [0; LONGEST_LINE + 1];
     let end = put_line(&mut line, address, axis, c, message, sum);
     if LONGEST_LINE < end {
-        return Written {
-            number: TOOLONG,
-            length: 0,
-        };
+        return Err(Refusal::TooLong);
     }
-    let length = put_text(buf, 0, &line[..end]);
-    Written {
-        number: ACCEPTED,
-        length,
-    }
+    Ok(put_text(buf, 0, &line[..end]))
 }

@@ -8,16 +8,16 @@ use native.Mathlib.Omega.{arith}
 use lib.Dec.{eqb, ltb, eqb-zero-suc, eqb-suc-suc}
 use lib.ListN.{length, take, drop}
 use borrow.Author.Tests.{ne_eqb, lt-ltb, le-ltb}
-use Rattle.std.specs.Prelude.{Option, None, Some}
+use Rattle.std.specs.Prelude.{Option, None, Some, Err, Ok}
 use Rattle.units.specs.declared.Number.{Number}
+use Rattle.std.specs.Result.{result_ok}
 use Rattle.laws.specs.Lists.{all, fold, span}
-use Rattle.laws.specs.Refusals.{first_of, ACCEPTED, BADREPORT}
+use Rattle.laws.specs.declared.Refusal.TheVariants.{BadReport}
+use Rattle.laws.specs.Refusals.{first_of, ACCEPTED, Verdict}
 use Rattle.laws.specs.Text.{text, same}
 use Rattle.laws.proofs.Bools.{and_false}
 use Rattle.laws.proofs.Lists.{rest}
-use Rattle.numbers.specs.declared.NumberRead.{NumberRead}
-use Rattle.numbers.specs.declared.NumberRead.TheVariants.{Value, Refused}
-use Rattle.numbers.specs.Reading.{read_number}
+use Rattle.numbers.specs.Reading.{NumberRead, read_number}
 use Rattle.words.specs.declared.Word.{Word}
 use Rattle.words.specs.Cutting.{cut, word_at, head_word, tail_words}
 use Rattle.words.proofs.Cut.{cut_none, word_head, word_tail}
@@ -25,8 +25,7 @@ use Rattle.line.specs.Spelling.{longest_line}
 use Rattle.line.specs.Reading.{printable, is_footer}
 use Rattle.input.specs.declared.reports.MotorReport.{MotorReport}
 use Rattle.input.specs.declared.reports.PlacedReport.{PlacedReport}
-use Rattle.input.specs.ReportLines.{framed_words, behind_r, number_in, number_said, numbers_of, three_of, read_report, at_place, placed_of, read_placed}
-use Rattle.input.specs.ReportLines.{number_of, placed_number, is_number, spelled_so, refusal_for, line_refusal, placed_refusal}
+use Rattle.input.specs.ReportLines.{framed_words, behind_r, number_said, numbers_of, three_of, read_report, at_place, placed_of, read_placed, number_of, placed_number, is_number, spelled_so, refusal_for, line_refusal, placed_refusal}
 
 -- ---- the frame
 module _ (s : List ℕ) where
@@ -104,20 +103,20 @@ unfolding head_word tail_words read_number
 place_and_three [] = refl
 place_and_three (d ∷ ws) = refl
 
--- ---- the number of what is read, by the table
-abbrev number_if : Bool → ℕ
-number_if right = cond (not right) BADREPORT ACCEPTED
+-- ---- what is read, by the table
+abbrev number_if : Bool → Verdict
+number_if right = cond (not right) (Err BadReport) ACCEPTED
 
 -- the words behind `R`: so many, and all of them numbers
 abbrev so_many : ℕ → List (List ℕ) → Bool
 so_many many ws = eqb (length ws) many && all (λ w. is_number (read_number w)) ws
 
 three_numbers : (x y z : NumberRead)
-    → number_of (numbers_of (number_in x) (number_in y) (number_in z)) ≡ number_if (is_number x && (is_number y && (is_number z && true)))
-three_numbers (Refused p) y z = refl
-three_numbers (Value a) (Refused p) z = refl
-three_numbers (Value a) (Value k) (Refused p) = refl
-three_numbers (Value a) (Value k) (Value n) = refl
+    → number_of (numbers_of (result_ok x) (result_ok y) (result_ok z)) ≡ number_if (is_number x && (is_number y && (is_number z && true)))
+three_numbers (Err p) y z = refl
+three_numbers (Ok a) (Err p) z = refl
+three_numbers (Ok a) (Ok k) (Err p) = refl
+three_numbers (Ok a) (Ok k) (Ok n) = refl
 
 just_3 : (ws : List (List ℕ)) → number_of (three_of ws) ≡ number_if (so_many 3 ws)
 unfolding fold
@@ -128,10 +127,10 @@ just_3 (a ∷ k ∷ n ∷ []) = three_numbers (read_number a) (read_number k) (r
 just_3 (a ∷ k ∷ n ∷ x ∷ ws) = rw (ne_eqb (length (a ∷ k ∷ n ∷ x ∷ ws)) 3 (λ e. omega arith))
 
 one_more : (x : NumberRead) (r : Option MotorReport) (l o : Bool) → number_of r ≡ number_if (l && o)
-    → placed_number (at_place (number_in x) r) ≡ number_if (l && (is_number x && o))
-one_more (Refused p) r l o e = ap number_if (sym (and_false l))
-one_more (Value d) None l o e = e
-one_more (Value d) (Some r) l o e = e
+    → placed_number (at_place (result_ok x) r) ≡ number_if (l && (is_number x && o))
+one_more (Err p) r l o e = ap number_if (sym (and_false l))
+one_more (Ok d) None l o e = e
+one_more (Ok d) (Some r) l o e = e
 
 just_4 : (ws : List (List ℕ)) → placed_number (placed_of ws) ≡ number_if (so_many 4 ws)
 unfolding fold
@@ -139,7 +138,7 @@ just_4 [] = refl
 just_4 (d ∷ ws) = rw (eqb-suc-suc (length ws) 3) (one_more (read_number d) (three_of ws) (eqb (length ws) 3) _ (just_3 ws))
 
 -- whatever is read of the words behind `R`, where just so many numbers are accepted, and no words are not
-module _ {X : Type 0} (read : List (List ℕ) → X) (number : X → ℕ) (many : ℕ) (none : number (read []) ≡ BADREPORT)
+module _ {X : Type 0} (read : List (List ℕ) → X) (number : X → Verdict) (many : ℕ) (none : number (read []) ≡ Err BadReport)
     (just : (ws : List (List ℕ)) → number (read ws) ≡ number_if (so_many many ws)) where
   words_number_lem : (ws : List (List ℕ)) → number (read (behind_r ws)) ≡ number_if (spelled_so (suc many) ws)
   unfolding spelled_so head_word tail_words
@@ -158,7 +157,7 @@ module _ {X : Type 0} (read : List (List ℕ) → X) (number : X → ℕ) (many 
       words = cut (take (span printable s) s)
 
       go : (t f : Bool) → number (read (behind_r (cond t [] (cond f words []))))
-          ≡ cond t BADREPORT (cond (not f) BADREPORT (number_if (spelled_so (suc many) words)))
+          ≡ cond t (Err BadReport) (cond (not f) (Err BadReport) (number_if (spelled_so (suc many) words)))
       go true f = none
       go false false = none
       go false true = words_number_lem words

@@ -1,13 +1,13 @@
 -- How the line of a motor report is read: "`R axis kind p` ... with spaces and numbers as above"; for a chain `R device axis kind p`.
 -- "22 if misspelt, over 80 bytes or without a footer"
-use Rattle.std.specs.Prelude.{Option, None, Some, Bool, true, false, cond, not, ◌&&◌, List, [], ◌∷◌, ℕ, eqb, ltb, length, take, drop}
+use Rattle.std.specs.Prelude.{Option, None, Some, Bool, true, false, cond, not, ◌&&◌, List, [], ◌∷◌, ℕ, eqb, ltb, length, take, drop, Err, Ok}
+use Rattle.std.specs.Result.{result_ok}
 use Rattle.laws.specs.Lists.{all, span}
-use Rattle.laws.specs.Refusals.{◌when◌, first_of, ACCEPTED, BADREPORT}
+use Rattle.laws.specs.declared.Refusal.TheVariants.{BadReport}
+use Rattle.laws.specs.Refusals.{◌when◌, first_of, ACCEPTED, Verdict}
 use Rattle.laws.specs.Text.{text, same}
 use Rattle.units.specs.declared.Number.{Number}
-use Rattle.numbers.specs.declared.NumberRead.{NumberRead}
-use Rattle.numbers.specs.declared.NumberRead.TheVariants.{Value, Refused}
-use Rattle.numbers.specs.Reading.{read_number}
+use Rattle.numbers.specs.Reading.{NumberRead, read_number}
 use Rattle.words.specs.Cutting.{cut, head_word, tail_words}
 use Rattle.line.specs.Reading.{printable, is_footer}
 use Rattle.line.specs.Spelling.{longest_line}
@@ -25,13 +25,9 @@ abbrev pub behind_r : List (List ℕ) → List (List ℕ)
 behind_r [] = []
 behind_r (r ∷ ws) = cond (same r (text "R")) ws []
 
--- what was read of a word, and what a word says, if that is a number
-abbrev pub number_in : NumberRead → Option Number
-number_in (Value n) = Some n
-number_in (Refused p) = None
-
+-- what a word says, if that is a number
 abbrev pub number_said : List ℕ → Option Number
-number_said w = number_in (read_number w)
+number_said w = result_ok (read_number w)
 
 -- three numbers: axis, kind, and the last one
 abbrev pub numbers_of : Option Number → Option Number → Option Number → Option MotorReport
@@ -65,37 +61,37 @@ placed_of (d ∷ ws) = at_place (number_said d) (three_of ws)
 unfoldable pub read_placed : List ℕ → Option PlacedReport
 read_placed s = placed_of (behind_r (framed_words s))
 
--- document 01's number for each case of the answer
-abbrev pub number_of : Option MotorReport → ℕ
+-- what document 01 says for each case of the answer
+abbrev pub number_of : Option MotorReport → Verdict
 number_of (Some r) = ACCEPTED
-number_of None = BADREPORT
+number_of None = Err BadReport
 
-abbrev pub placed_number : Option PlacedReport → ℕ
+abbrev pub placed_number : Option PlacedReport → Verdict
 placed_number (Some r) = ACCEPTED
-placed_number None = BADREPORT
+placed_number None = Err BadReport
 
 -- the words of a report, said apart from their reading: so many, `R` and then numbers
 abbrev pub is_number : NumberRead → Bool
-is_number (Value n) = true
-is_number (Refused p) = false
+is_number (Ok n) = true
+is_number (Err p) = false
 
 unfoldable pub spelled_so : ℕ → List (List ℕ) → Bool
 spelled_so many ws = eqb (length ws) many && (same (head_word ws) (text "R") && all (λ w. is_number (read_number w)) (tail_words ws))
 
 -- "22 if misspelt, over 80 bytes or without a footer"
-unfoldable pub refusal_for : ℕ → List ℕ → ℕ
+unfoldable pub refusal_for : ℕ → List ℕ → Verdict
 refusal_for many s =
     let end = span printable s in
     first_of
-    (BADREPORT when ltb longest_line (length s)
-    ∷ BADREPORT when not (is_footer (drop end s))
-    ∷ BADREPORT when not (spelled_so many (cut (take end s)))
+    (BadReport when ltb longest_line (length s)
+    ∷ BadReport when not (is_footer (drop end s))
+    ∷ BadReport when not (spelled_so many (cut (take end s)))
     ∷ [])
 
 -- the four words of "`R axis kind p`"
-unfoldable pub line_refusal : List ℕ → ℕ
+unfoldable pub line_refusal : List ℕ → Verdict
 line_refusal s = refusal_for 4 s
 
 -- the five words of `R device axis kind p`
-unfoldable pub placed_refusal : List ℕ → ℕ
+unfoldable pub placed_refusal : List ℕ → Verdict
 placed_refusal s = refusal_for 5 s

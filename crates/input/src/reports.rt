@@ -2,11 +2,10 @@
 // specs/ReportLines.antt says which lines are misspelt.
 ghost use Rattle.std.specs.Prelude.{◌≡◌, drop};
 ghost use Rattle.words.specs.Cutting.{cut, head_word, tail_words};
-ghost use Rattle.input.specs.ReportLines.{framed_words, behind_r, number_in, number_said, numbers_of, three_of, read_report, at_place, read_placed};
+ghost use Rattle.input.specs.ReportLines.{framed_words, behind_r, number_said, numbers_of, three_of, read_report, at_place, read_placed};
 ghost use Rattle.input.specs.ReportLines.{number_of, placed_number, line_refusal, placed_refusal};
 
 use line::LONGEST_LINE;
-use numbers::NumberRead;
 use units::Number;
 use words::Word;
 
@@ -58,16 +57,6 @@ struct NumberAt {
     end: usize,
 }
 
-// What was read of a word, if that is a number.
-fn number_in(read: NumberRead) -> Option<Number>
-    ensures { result ≡ number_in read }
-{
-    match read {
-        NumberRead::Value(n) => Some(n),
-        NumberRead::Refused(_) => None,
-    }
-}
-
 // The first word from at on as a number: the words from behind it on are the others.
 fn number_at(s: &[u8], at: usize) -> NumberAt
     ensures number { result.number ≡ number_said (head_word (cut (drop at s.now))) }
@@ -75,7 +64,7 @@ fn number_at(s: &[u8], at: usize) -> NumberAt
 {
     let Word { start, end } = words::word_at(s, at);
     NumberAt {
-        number: number_in(numbers::reading::read_number(&s[start..end])),
+        number: numbers::reading::read_number(&s[start..end]).ok(),
         end,
     }
 }

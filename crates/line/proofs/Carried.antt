@@ -1,30 +1,27 @@
 -- The words that a command carries, which the reader tells by their place, are those behind the command's first two; and no more than
 -- 74 bytes lie between the places that it tells. Assumes nothing.
+use Rattle.laws.specs.declared.Refusal.{Refusal}
+use Rattle.std.specs.Prelude.{Err, Ok, is_err}
 use mathlib.Core.Path.{◌≡◌, refl, sym, ap, ◌∙◌}
-use mathlib.Core.Bool.{Bool, true, false, cond}
+use mathlib.Core.Bool.{true≢false, Bool, true, false, cond}
 use mathlib.Core.List.{List, [], ◌∷◌}
 use Prim.Native.Nat.{ℕ, zero, suc, ◌+◌, ◌≤◌}
 use native.Mathlib.Omega.{arith}
 use lib.Dec.{ltb}
 use lib.ListN.{length, take, drop, length-take, length-drop}
 use lib.Seq.{length-take-le}
-use Rattle.numbers.specs.Reading.{read_address}
-use Rattle.numbers.specs.declared.UnsignedRead.{UnsignedRead}
-use Rattle.numbers.specs.declared.UnsignedRead.TheVariants as Unsigned
+use Rattle.numbers.specs.Reading.{read_address, UnsignedRead}
 use Rattle.words.specs.Cutting.{Placed, behind, bytes_of, words_at, cut}
 use Rattle.words.proofs.Cut.{bytes_cut, first_stands}
 use Rattle.command.specs.declared.Command.{Command}
 use Rattle.command.specs.Commands.{carries_words, echo_of}
 use Rattle.phrase.specs.Spelling.{Row}
-use Rattle.phrase.specs.Reading.{read_command}
-use Rattle.phrase.specs.declared.WordsRead.TheVariants as Read
+use Rattle.phrase.specs.Reading.{read_command, worded, WordsRead}
 use Rattle.phrase.proofs.Rows.{behind_two, echo_place, Begins, begins, row_of, row_begins, place_of}
-use Rattle.line.specs.declared.Frame.{Frame}
-use Rattle.line.specs.declared.LineRead.{LineRead}
-use Rattle.line.specs.declared.LineRead.TheVariants.{Silent, Addressed}
-use Rattle.line.specs.Reading.{frame_of, starts_number, axis_digit, axis_of, address_of, read_words, framed, read_line, carried_by}
+use Rattle.line.specs.Reading.{Frame, frame_of, starts_number, axis_digit, axis_of, address_of, read_words, framed, read_line, carried_by, LineRead, sent}
 use Rattle.line.proofs.Frames.{content_fits}
 use Rattle.line.proofs.Steps.{behind_slash, take_whole}
+use Rattle.laws.specs.Refusals.{refusal_at}
 
 -- a command's first two words, from `at` on in s: behind them stand the others, and they take up room
 two_behind : (s : List ℕ) (at : ℕ) (ts : List Placed) → words_at s at ≡ ts → Begins ts
@@ -65,7 +62,7 @@ drop_more (suc i) (v ∷ ws) e = drop_more i ws e
 -- the words es of a command c in a line l: they are of its content, and stand in a part of it of 74 bytes at most
 pub record Carried (l : List ℕ) (c : Command) (es : List (List ℕ)) : Type 0 where
   pub size : ℕ
-  pub frame : frame_of l ≡ Frame.Content size
+  pub frame : frame_of l ≡ Ok size
   pub skip : ℕ
   pub words : es ≡ echo_of c (drop skip (cut (take size (drop 1 l))))
   pub part : List ℕ
@@ -75,10 +72,19 @@ pub record Carried (l : List ℕ) (c : Command) (es : List (List ℕ)) : Type 0 
 -- a command c, told with the place `from`, in a content that ends at `end`
 module _ (l : List ℕ) (a k end from : ℕ) (c : Command) where
   abbrev is : LineRead
-  is = Addressed a k end (Read.Command c from)
+  is = Ok (sent a k end (Ok (worded c from)))
 
-  no_command : {n p : ℕ} → Silent n p ≡ is → {A : Type 0} → A
-  no_command e = let z : ◌≡◌ {A = ℕ} 0 1 = cc in absurd (omega arith)
+  no_command : {n : Refusal} {p : ℕ} → ◌≡◌ {A = LineRead} (Err (refusal_at n p)) is → {A : Type 0} → A
+  no_command e = absurd (true≢false (ap is_err e))
+
+  -- what is read of a line is read once
+  abbrev ends_read : LineRead → ℕ
+  ends_read (Ok x) = x.end
+  ends_read (Err e) = 0
+
+  abbrev words_read : LineRead → WordsRead
+  words_read (Ok x) = x.words
+  words_read (Err e) = Err e
 
   -- its words stand behind some others of ws, and what it carries behind two more
   record Skipped (e : ℕ) (ws : List (List ℕ)) : Type 0 where
@@ -89,10 +95,10 @@ module _ (l : List ℕ) (a k end from : ℕ) (c : Command) where
 
   module _ (e : ℕ) (ws : List (List ℕ)) where
     found : (at i n j : ℕ) (ts : List Placed) → 1 ≤ at → words_at (take e l) at ≡ ts → drop i ws ≡ bytes_of ts
-        → Addressed n j e (read_command ts) ≡ is → Skipped e ws
+        → Ok (sent n j e (read_command ts)) ≡ is → Skipped e ws
     found at i n j ts low there q h =
-        let r : read_command ts ≡ Read.Command c from = cc in
-        let m : e ≡ end = cc in
+        let r : read_command ts ≡ Ok (worded c from) = ap words_read h in
+        let m : e ≡ end = ap ends_read h in
         let row = row_of from ts c r in
         let place : from ≡ echo_place c ts = place_of from ts c r in
         record {
@@ -107,7 +113,7 @@ module _ (l : List ℕ) (a k end from : ℕ) (c : Command) where
     by_axis at i n [] low there q h = found at i n 0 [] low there q h
     by_axis at i n (w ∷ t) low there q h = go (ltb (axis_digit w.bytes) 10) h
       where
-        go : (x : Bool) → cond x (Addressed n (axis_digit w.bytes) e (read_command t)) (Addressed n 0 e (read_command (w ∷ t))) ≡ is
+        go : (x : Bool) → cond x (Ok (sent n (axis_digit w.bytes) e (read_command t))) (Ok (sent n 0 e (read_command (w ∷ t)))) ≡ is
             → Skipped e ws
         go true h =
             let first = first_stands (take e l) at there in
@@ -120,20 +126,20 @@ module _ (l : List ℕ) (a k end from : ℕ) (c : Command) where
   by_words e (w ∷ t) there h = go (starts_number w.bytes) h
     where
       address : (u : UnsignedRead) → address_of w.start u e t ≡ is → Skipped e (bytes_of (w ∷ t))
-      address (Unsigned.Refused p) h = no_command h
-      address (Unsigned.Value n) h =
+      address (Err p) h = no_command h
+      address (Ok n) h =
           let first = first_stands (take e l) 1 there in
           by_axis e (bytes_of (w ∷ t)) (behind w) 1 n t (omega (arith, first.from)) first.others refl h
 
-      go : (x : Bool) → cond x (address_of w.start (read_address w.bytes) e t) (Addressed 0 0 e (read_command (w ∷ t))) ≡ is
+      go : (x : Bool) → cond x (address_of w.start (read_address w.bytes) e t) (Ok (sent 0 0 e (read_command (w ∷ t)))) ≡ is
           → Skipped e (bytes_of (w ∷ t))
       go true h = address (read_address w.bytes) h
       go false h = found e (bytes_of (w ∷ t)) 1 0 0 0 (w ∷ t) (omega arith) there refl h
 
   by_frame : (f : Frame) → frame_of l ≡ f → framed l f ≡ is → Carried l c (carried_by c (drop from (take end l)))
       × (carries_words c ≡ true → end ≤ from + 74)
-  by_frame (Frame.Refused n) q h = no_command h
-  by_frame (Frame.Content n) q h =
+  by_frame (Err n) q h = no_command h
+  by_frame (Ok n) q h =
       let fits = content_fits l n (sym q) refl in
       let w = by_words (length (up_to l n)) (words_at (up_to l n) 1) (content_there l n) h in
       let size : length (up_to l n) ≡ suc n = length-take-le (suc n) l (omega (arith, fits.0)) in

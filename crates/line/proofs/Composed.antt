@@ -1,5 +1,7 @@
 -- A line's frame is read where the line is composed so, and nowhere else.
 -- Assumes nothing.
+use Rattle.laws.specs.declared.Refusal.TheVariants.{BadSum}
+use Rattle.std.specs.Prelude.{Ok, Err}
 use mathlib.Core.Path.{◌≡◌, refl, sym, ap, ◌∙◌}
 use mathlib.Core.Logic.{⊎_elim}
 use mathlib.Core.Bool.{Bool, true, false, cond}
@@ -24,7 +26,6 @@ use Rattle.words.specs.Cutting.{cut}
 use Rattle.words.proofs.Content.{Plain, done, space, byte, content_cut, cut_content, content_plain}
 use Rattle.line.specs.Spelling.{End, Footer, Checksum}
 use Rattle.line.specs.Reading.{printable, no_colon, is_end, is_footer, checked, parted, after_slash, frame_of}
-use Rattle.line.specs.declared.Frame.{Frame}
 use Rattle.line.proofs.Frames.{low, high, between, colon_not, other_yes, tail_yes, tail_not, too_long_lem, no_slash, slash_first, parted_fits}
 
 -- ---- contents
@@ -113,24 +114,24 @@ sum_stops (Checksum.sum {d} r) = span_not no_colon 58 d (colon_not 58 refl)
 says : (s : List ℕ) (h l n : ℕ) → n ≡ checksum s → HexPair (h ∷ l ∷ []) n → says_sum s (read_pair h l) ≡ true
 says s h l n e r = rw (pair_read r) (eq-eqb n (checksum s) e)
 
-sum_pair : {d : List ℕ} {n : ℕ} (c : ℕ) (s : List ℕ) → n ≡ checksum s → HexPair d n → checked c s (text ":" ++ d) ≡ Frame.Content c
+sum_pair : {d : List ℕ} {n : ℕ} (c : ℕ) (s : List ℕ) → n ≡ checksum s → HexPair d n → checked c s (text ":" ++ d) ≡ Ok c
 unfolding checked text
 sum_pair c s e (pair {h} {l} x y) = rw (says s h l _ e (pair x y))
 
-sum_yes : {s k : List ℕ} (c : ℕ) → Checksum s k → checked c s k ≡ Frame.Content c
+sum_yes : {s k : List ℕ} (c : ℕ) → Checksum s k → checked c s k ≡ Ok c
 unfolding checked
 sum_yes c Checksum.none = refl
 sum_yes {s} c (Checksum.sum r) = sum_pair c s refl r
 
 -- what stands behind the content is its checksum, if it begins with a colon
-sum_of : (c n : ℕ) (s k : List ℕ) → (0 < length k → get_or k 0 0 ≡ 58) → checked c s k ≡ Frame.Content n → Checksum s k
+sum_of : (c n : ℕ) (s k : List ℕ) → (0 < length k → get_or k 0 0 ≡ 58) → checked c s k ≡ Ok n → Checksum s k
 unfolding checked text
 sum_of c n s [] b e = Checksum.none
 sum_of c n s (x ∷ []) b e = let z : ◌≡◌ {A = ℕ} 0 1 = cc in absurd (omega arith)
 sum_of c n s (x ∷ h ∷ []) b e = let z : ◌≡◌ {A = ℕ} 0 1 = cc in absurd (omega arith)
 sum_of c n s (x ∷ h ∷ l ∷ []) b e = go (says_sum s (read_pair h l)) refl e
   where
-    go : (t : Bool) → says_sum s (read_pair h l) ≡ t → cond t (Frame.Content c) (Frame.Refused 3) ≡ Frame.Content n
+    go : (t : Bool) → says_sum s (read_pair h l) ≡ t → cond t (Ok c) (Err BadSum) ≡ Ok n
         → Checksum s (x ∷ h ∷ l ∷ [])
     go true q r = rw (b (omega arith)) (Checksum.sum (says_pair s h l q))
     go false q r = let z : ◌≡◌ {A = ℕ} 0 1 = cc in absurd (omega arith)
@@ -150,12 +151,12 @@ pub data Composed : List ℕ → List (List ℕ) → Type 0 where
       → Composed (text "/" ++ s ++ k ++ f) ws
 
 module _ {s k f : List ℕ} (p : Plain s) (c : Checksum s k) (g : Footer f) where
-  body_read_lem : parted (s ++ k) ≡ Frame.Content (length s)
+  body_read_lem : parted (s ++ k) ≡ Ok (length s)
   unfolding parted
   body_read_lem = rw (pass_append no_colon s k (plain_no_colon p) (sum_stops c), take-append_seam s k, drop-append_seam s k)
       (sum_yes (length s) c)
 
-  tail_read : after_slash ((s ++ k) ++ f) ≡ Frame.Content (length s)
+  tail_read : after_slash ((s ++ k) ++ f) ≡ Ok (length s)
   tail_read =
       let x = s ++ k in
       let e : length x ≡ span printable (x ++ f) =
@@ -165,7 +166,7 @@ module _ {s k f : List ℕ} (p : Plain s) (c : Checksum s k) (g : Footer f) wher
 -- where the line is read, its content is n bytes, and these are cut into ws
 pub record Framed (l : List ℕ) (ws : List (List ℕ)) : Type 0 where
   pub size : ℕ
-  pub frame : frame_of l ≡ Frame.Content size
+  pub frame : frame_of l ≡ Ok size
   pub words : cut (take size (drop 1 l)) ≡ ws
 
 pub composed_read : {l : List ℕ} {ws : List (List ℕ)} → Composed l ws → Framed l ws
@@ -181,7 +182,7 @@ composed_read (composed {s} {k} {f} r c g h) =
     front s k f = rw append_assoc (take-append_seam s (k ++ f))
 
 -- a body that is read has its content up to its first colon
-pub body_of : (x : List ℕ) (n : ℕ) → parted x ≡ Frame.Content n → Checksum (take n x) (drop n x)
+pub body_of : (x : List ℕ) (n : ℕ) → parted x ≡ Ok n → Checksum (take n x) (drop n x)
 unfolding parted
 body_of x n e = rw (parted_fits x n e) (sum_of (span no_colon x) n (take (span no_colon x) x) (drop (span no_colon x) x) (stop_byte x) e)
 
@@ -197,7 +198,7 @@ compose t e n h p c g len =
         → length (47 ∷ t) ≤ 80 → Composed (47 ∷ t) vs
     put q r s k f h = rw (← q, ← r) (composed s k f (rw q h))
 
-tail_of : (t : List ℕ) (n : ℕ) → length (47 ∷ t) ≤ 80 → after_slash t ≡ Frame.Content n → Composed (47 ∷ t) (cut (take n t))
+tail_of : (t : List ℕ) (n : ℕ) → length (47 ∷ t) ≤ 80 → after_slash t ≡ Ok n → Composed (47 ∷ t) (cut (take n t))
 tail_of t n len q = go (is_footer (drop (span printable t) t)) refl
   where
     go : (b : Bool) → is_footer (drop (span printable t) t) ≡ b → Composed (47 ∷ t) (cut (take n t))
@@ -216,7 +217,7 @@ pub slash_cons : (l : List ℕ) → get_or l 0 0 ≡ 47 → l ≡ 47 ∷ drop 1 
 slash_cons [] h = absurd (omega arith)
 slash_cons (x ∷ l) h = rw h
 
-pub composed_of : (l : List ℕ) (n : ℕ) → frame_of l ≡ Frame.Content n → Composed l (cut (take n (drop 1 l)))
+pub composed_of : (l : List ℕ) (n : ℕ) → frame_of l ≡ Ok n → Composed l (cut (take n (drop 1 l)))
 composed_of l n e =
     ⊎_elim (λ h. let z : ◌≡◌ {A = ℕ} 0 1 = cc (too_long_lem l h) in absurd (omega arith))
     (λ h. ⊎_elim (λ k. as-slash (drop 1 l) (slash_cons l k) h (sym (slash_first l h k) ∙ e))
@@ -224,5 +225,5 @@ composed_of l n e =
     (eq_or_ne (get_or l 0 0) 47))
     (lt_or_le 80 (length l))
   where
-    as-slash : (t : List ℕ) → l ≡ 47 ∷ t → length l ≤ 80 → after_slash t ≡ Frame.Content n → Composed l (cut (take n t))
+    as-slash : (t : List ℕ) → l ≡ 47 ∷ t → length l ≤ 80 → after_slash t ≡ Ok n → Composed l (cut (take n t))
     as-slash t q h r = rw q (tail_of t n (rw q at h) r)

@@ -1,5 +1,6 @@
 -- A line is read as a command exactly where the spelling rules write it for that command, and no line is written for two.
 -- Every row, every setting, every number of 32 bits, every line to 80 bytes. Assumes nothing.
+use Rattle.std.specs.Prelude.{Err, Ok}
 use mathlib.Core.Path.{◌≡◌, refl, sym, ap, subst, ◌∙◌}
 use mathlib.Core.Logic.{◌↔◌, ⊎_elim}
 use mathlib.Core.Bool.{Bool, true, false, cond}
@@ -13,9 +14,7 @@ use Rattle.laws.specs.Text.{text}
 use Rattle.laws.proofs.Order.{lt_or_le}
 use Rattle.laws.proofs.Each as Each
 use Rattle.numbers.specs.Spelling.{AddressWord, address}
-use Rattle.numbers.specs.Reading.{value_of, read_address}
-use Rattle.numbers.specs.declared.UnsignedRead.{UnsignedRead}
-use Rattle.numbers.specs.declared.UnsignedRead.TheVariants as Unsigned
+use Rattle.numbers.specs.Reading.{value_of, read_address, UnsignedRead}
 use Rattle.numbers.proofs.Value.{digit_value, digit_below, digit_of, none_below}
 use Rattle.numbers.proofs.Numbers.{unsigned_first, address_read, address_of_lem}
 use Rattle.words.specs.Cutting.{Placed, behind, bytes_of, words_at, cut, head_word}
@@ -24,15 +23,11 @@ use Rattle.words.proofs.Table.{by_entry}
 use Rattle.command.specs.declared.Command.{Command}
 use Rattle.command.specs.Commands.{echo_of}
 use Rattle.phrase.specs.Spelling.{Row}
-use Rattle.phrase.specs.Reading.{unknown, firsts, read_command}
-use Rattle.phrase.specs.declared.WordsRead.{WordsRead}
-use Rattle.phrase.specs.declared.WordsRead.TheVariants as Read
+use Rattle.phrase.specs.Reading.{unknown, firsts, read_command, WordsRead, worded}
 use Rattle.phrase.proofs.Among.{◌also◌}
 use Rattle.phrase.proofs.Rows.{no_command, standing, bytes_standing, row_standing, row_read, row_echo, row_of, place_of}
-use Rattle.line.specs.declared.Frame.{Frame}
-use Rattle.line.specs.declared.LineRead.TheVariants.{Addressed}
+use Rattle.line.specs.Reading.{Frame, frame_of, begins_number, starts_number, axis_digit, axis_of, address_of, read_words, read_content, framed, read_line, carried_by, asked_by, read_asked, sent}
 use Rattle.line.specs.Spelling.{AxisWord, digit, Asked, Words, bare, addressed, with_axis, Line, line}
-use Rattle.line.specs.Reading.{frame_of, begins_number, starts_number, axis_digit, axis_of, address_of, read_words, read_content, framed, read_line, carried_by, asked_by, read_asked}
 use Rattle.line.proofs.Steps.{begins_digit}
 use Rattle.line.proofs.Carried.{carried_echo, up_to, content_words, content_there}
 use Rattle.line.proofs.Composed.{Composed, composed, composed_read, composed_of}
@@ -43,7 +38,7 @@ use Rattle.line.proofs.Composed.{Composed, composed, composed_read, composed_of}
 abbrev NoNumber : List ℕ → Type 0
 NoNumber w = (starts_number w ≡ false) × (axis_digit w ≡ 99)
 
-read_first : (ws : List Placed) {c : Command} {q : ℕ} → read_command ws ≡ Read.Command c q → NoNumber (head_word (bytes_of ws))
+read_first : (ws : List Placed) {c : Command} {q : ℕ} → read_command ws ≡ Ok (worded c q) → NoNumber (head_word (bytes_of ws))
 unfolding read_command starts_number begins_number axis_digit head_word text value_of
 read_first [] e = (refl, refl)
 read_first (w ∷ t) e = by_entry unknown NoNumber w.bytes (firsts t) e no_command
@@ -86,7 +81,7 @@ asked n k c es = record { address = n; axis = k; command = c; echo = es }
 
 -- the words ts of the line, from `at` on, spell a command
 row_asked : (l : List ℕ) (end n k at : ℕ) (ts : List Placed) {es : List (List ℕ)} {c : Command} → words_at (take end l) at ≡ ts
-    → Row (bytes_of ts) c es → asked_by l (Addressed n k end (read_command ts)) ≡ some (asked n k c es)
+    → Row (bytes_of ts) c es → asked_by l (Ok (sent n k end (read_command ts))) ≡ some (asked n k c es)
 row_asked l end n k at ts {es} {c} there r =
     rw (row_read ts r) (ap (λ (xs : List (List ℕ)). some (asked n k c xs)) (carried_echo c (take end l) at ts there r ∙ row_echo r))
 
@@ -128,15 +123,15 @@ record Told (n k : ℕ) (ts : List (List ℕ)) (a : Asked) : Type 0 where
 
 module _ (l : List ℕ) (end : ℕ) where
   told : (n k at : ℕ) (ts : List Placed) (a : Asked) (r : WordsRead) → read_command ts ≡ r → words_at (take end l) at ≡ ts
-      → asked_by l (Addressed n k end r) ≡ some a → Told n k (bytes_of ts) a
-  told n k at ts a (Read.Refused m p) q there e = no_asked e
-  told n k at ts a (Read.Command c m) q there e =
-      let row = row_of m ts c q in
+      → asked_by l (Ok (sent n k end r)) ≡ some a → Told n k (bytes_of ts) a
+  told n k at ts a (Err u) q there e = no_asked e
+  told n k at ts a (Ok x) q there e =
+      let row = row_of x.from ts x.command q in
       record {
-        command = c;
+        command = x.command;
         row = row;
-        is = ap (asked n k c) (sym (carried_echo c (take end l) at ts there row))
-            ∙ ap (λ (i : ℕ). asked n k c (carried_by c (drop i (take end l)))) (sym (place_of m ts c q)) ∙ some_one e;
+        is = ap (asked n k x.command) (sym (carried_echo x.command (take end l) at ts there row))
+            ∙ ap (λ (i : ℕ). asked n k x.command (carried_by x.command (drop i (take end l)))) (sym (place_of x.from ts x.command q)) ∙ some_one e;
       }
 
   axis_of_lem : (at : ℕ) (w : List ℕ) (n : ℕ) (t : List Placed) (a : Asked) → words_at (take end l) at ≡ t → AddressWord w n
@@ -158,11 +153,11 @@ module _ (l : List ℕ) (end : ℕ) where
     where
       address : (u : UnsignedRead) → read_address w.bytes ≡ u → asked_by l (address_of w.start u end t) ≡ some a
           → Words (bytes_of (w ∷ t)) a
-      address (Unsigned.Refused p) q e = no_asked e
-      address (Unsigned.Value n) q e = axis_of_lem (behind w) w.bytes n t a (others l end 1 there) (address_of_lem w.bytes n q) e
+      address (Err p) q e = no_asked e
+      address (Ok n) q e = axis_of_lem (behind w) w.bytes n t a (others l end 1 there) (address_of_lem w.bytes n q) e
 
       go : (b : Bool) → starts_number w.bytes ≡ b
-          → asked_by l (cond b (address_of w.start (read_address w.bytes) end t) (Addressed 0 0 end (read_command (w ∷ t)))) ≡ some a
+          → asked_by l (cond b (address_of w.start (read_address w.bytes) end t) (Ok (sent 0 0 end (read_command (w ∷ t))))) ≡ some a
           → Words (bytes_of (w ∷ t)) a
       go true h e = address (read_address w.bytes) refl e
       go false h e = let m = told 0 0 1 (w ∷ t) a (read_command (w ∷ t)) refl there e in rw (← m.is) (bare m.row)
@@ -188,8 +183,8 @@ pub together : {l : List ℕ} {ws : List (List ℕ)} {a : Asked} → Composed l 
 together (composed c k f h) w = line c w k f h
 
 read_written : (l : List ℕ) (a : Asked) (f : Frame) → frame_of l ≡ f → asked_by l (framed l f) ≡ some a → Line l a
-read_written l a (Frame.Refused n) q e = no_asked e
-read_written l a (Frame.Content n) q e = together (composed_of l n q) (content_of l n a e)
+read_written l a (Err n) q e = no_asked e
+read_written l a (Ok n) q e = together (composed_of l n q) (content_of l n a e)
 
 -- For every line and every command, the line is read as the command exactly when the spelling rules write that line for it.
 pub demand_3 : (l : List ℕ) (a : Asked) → Line l a ↔ (read_asked l ≡ some a)

@@ -1,5 +1,7 @@
 -- The cases of the frame's reading, as the tests of the code have them.
 -- Assumes nothing.
+use Rattle.laws.specs.declared.Refusal.TheVariants.{TooLong, NotLine, BadSum}
+use Rattle.std.specs.Prelude.{Err, Ok}
 use mathlib.Core.Path.{◌≡◌, refl, sym, ap, ◌∙◌}
 use mathlib.Core.Logic.{⊎_elim}
 use mathlib.Core.Bool.{Bool, true, false, cond}
@@ -16,12 +18,9 @@ use Rattle.laws.proofs.Bools.{and_false, clash}
 use Rattle.laws.proofs.Lists.{rest}
 use Rattle.laws.proofs.Order.{lt_or_le}
 use Rattle.laws.proofs.Span.{span_le}
-use Rattle.numbers.specs.Reading.{read_pair, says_sum}
-use Rattle.numbers.specs.declared.PairRead.{PairRead}
-use Rattle.line.specs.Reading.{printable, no_colon, is_end, is_footer, checked, parted, after_slash, slashed, frame_of}
+use Rattle.numbers.specs.Reading.{read_pair, says_sum, PairRead}
+use Rattle.line.specs.Reading.{printable, no_colon, is_end, is_footer, checked, parted, after_slash, slashed, frame_of, Frame}
 use Rattle.line.specs.Spelling.{longest_line}
-use Rattle.line.specs.declared.Frame.{Frame}
-use Rattle.line.specs.declared.Frame.TheVariants.{Content, Refused}
 
 -- ---- bytes
 module _ (c : ℕ) where
@@ -68,7 +67,7 @@ footer_2 (c ∷ d ∷ []) false h e = rw e
 footer_2 (c ∷ d ∷ x ∷ f) b h e = absurd (omega arith)
 
 -- ---- the checksum
-sum_other : (c : ℕ) (b r : List ℕ) → (length r ≡ 0 → ⊥) → (length r ≡ 3 → ⊥) → checked c b r ≡ Refused 3
+sum_other : (c : ℕ) (b r : List ℕ) → (length r ≡ 0 → ⊥) → (length r ≡ 3 → ⊥) → checked c b r ≡ Err BadSum
 unfolding checked
 sum_other c b [] h k = absurd (h refl)
 sum_other c b (x ∷ []) h k = refl
@@ -77,7 +76,7 @@ sum_other c b (x ∷ y ∷ z ∷ []) h k = absurd (k refl)
 sum_other c b (x ∷ y ∷ z ∷ u ∷ r) h k = refl
 
 sum_3 : (c : ℕ) (b r : List ℕ) (t : Bool) → length r ≡ 3 → says_sum b (read_pair (get_or r 1 0) (get_or r 2 0)) ≡ t
-    → checked c b r ≡ cond t (Content c) (Refused 3)
+    → checked c b r ≡ cond t (Ok c) (Err BadSum)
 unfolding checked
 sum_3 c b [] t h e = absurd (omega arith)
 sum_3 c b (x ∷ []) t h e = absurd (omega arith)
@@ -87,11 +86,11 @@ sum_3 c b (x ∷ y ∷ z ∷ u ∷ r) t h e = absurd (omega arith)
 
 -- the answers of `read_body`, at the place c of the first colon
 module _ (b : List ℕ) (c : ℕ) (at : c ≡ span no_colon b) where
-  pub no_sum : length b ≤ c → parted b ≡ Content c
+  pub no_sum : length b ≤ c → parted b ≡ Ok c
   unfolding parted checked
   no_sum h = rw (← at, drop_of_length-le b h)
 
-  pub not_3 : c < length b → (length b - c ≡ 3 → ⊥) → parted b ≡ Refused 3
+  pub not_3 : c < length b → (length b - c ≡ 3 → ⊥) → parted b ≡ Err BadSum
   unfolding parted
   not_3 h k =
       rw (← at)
@@ -99,7 +98,7 @@ module _ (b : List ℕ) (c : ℕ) (at : c ≡ span no_colon b) where
       (λ (z : length (drop c b) ≡ 3). k (sym (length-drop c b) ∙ z)))
 
   pub sum_is : (t : Bool) {p : PairRead} → length b - c ≡ 3 → p ≡ read_pair (get_or b (c + 1) 0) (get_or b (c + 2) 0) → t ≡ says_sum (take c b) p
-      → parted b ≡ cond t (Content c) (Refused 3)
+      → parted b ≡ cond t (Ok c) (Err BadSum)
   unfolding parted
   sum_is t h q e = rw (← at) (sum_3 c (take c b) (drop c b) t (length-drop c b ∙ h) (simp get_or-drop (rw (← q) (sym e))))
 
@@ -109,7 +108,7 @@ module _ (t : List ℕ) (e : ℕ) (at : e ≡ span printable t) where
   unfolding after_slash
   tail_yes h = rw (← at, h)
 
-  pub tail_not : is_footer (drop e t) ≡ false → after_slash t ≡ Refused 1
+  pub tail_not : is_footer (drop e t) ≡ false → after_slash t ≡ Err NotLine
   unfolding after_slash
   tail_not h = rw (← at, h)
 
@@ -121,16 +120,16 @@ module _ (t : List ℕ) (e : ℕ) (at : e ≡ span printable t) where
   tail_fits = rw at (span_le printable t)
 
 module _ (l : List ℕ) where
-  pub too_long_lem : longest_line < length l → frame_of l ≡ Refused 2
+  pub too_long_lem : longest_line < length l → frame_of l ≡ Err TooLong
   unfolding frame_of
   too_long_lem h = rw (lt-ltb longest_line (length l) h)
 
-pub empty : (l : List ℕ) → length l ≡ 0 → frame_of l ≡ Refused 1
+pub empty : (l : List ℕ) → length l ≡ 0 → frame_of l ≡ Err NotLine
 unfolding frame_of slashed
 empty [] h = refl
 empty (x ∷ l) h = absurd (omega arith)
 
-pub no_slash : (l : List ℕ) → length l ≤ longest_line → (get_or l 0 0 ≡ 47 → ⊥) → frame_of l ≡ Refused 1
+pub no_slash : (l : List ℕ) → length l ≤ longest_line → (get_or l 0 0 ≡ 47 → ⊥) → frame_of l ≡ Err NotLine
 unfolding frame_of slashed
 no_slash [] h e = refl
 no_slash (x ∷ l) h e = rw (le-ltb longest_line (length (x ∷ l)) h, ne_eqb x 47 e)
@@ -141,19 +140,19 @@ slash_first [] h e = absurd (omega arith)
 slash_first (x ∷ l) h e = rw (le-ltb longest_line (length (x ∷ l)) h, eq-eqb x 47 e)
 
 -- a content that is found lies within its line
-checked_fits : (c n : ℕ) (b r : List ℕ) → checked c b r ≡ Content n → n ≡ c
+checked_fits : (c n : ℕ) (b r : List ℕ) → checked c b r ≡ Ok n → n ≡ c
 unfolding checked
 checked_fits c n b [] e = cc
 checked_fits c n b (x ∷ []) e = let z : ◌≡◌ {A = ℕ} 0 1 = cc in absurd (omega arith)
 checked_fits c n b (x ∷ y ∷ []) e = let z : ◌≡◌ {A = ℕ} 0 1 = cc in absurd (omega arith)
 checked_fits c n b (x ∷ y ∷ z ∷ []) e = go (says_sum b (read_pair y z)) e
   where
-    go : (t : Bool) → cond t (Content c) (Refused 3) ≡ Content n → n ≡ c
+    go : (t : Bool) → cond t (Ok c) (Err BadSum) ≡ Ok n → n ≡ c
     go true e = cc
     go false e = let z : ◌≡◌ {A = ℕ} 0 1 = cc in absurd (omega arith)
 checked_fits c n b (x ∷ y ∷ z ∷ u ∷ r) e = let z : ◌≡◌ {A = ℕ} 0 1 = cc in absurd (omega arith)
 
-pub parted_fits : (b : List ℕ) (n : ℕ) → parted b ≡ Content n → n ≡ span no_colon b
+pub parted_fits : (b : List ℕ) (n : ℕ) → parted b ≡ Ok n → n ≡ span no_colon b
 unfolding parted
 parted_fits b n e = checked_fits (span no_colon b) n (take (span no_colon b) b) (drop (span no_colon b) b) e
 
@@ -162,32 +161,32 @@ footer_some : (t : List ℕ) (e : ℕ) → is_footer (drop e t) ≡ true → e <
 unfolding is_footer
 footer_some t e h = ⊎_elim (λ l. l) (λ l. clash h (ap is_footer (drop_of_length-le t l))) (lt_or_le e (length t))
 
-tail_content : (t : List ℕ) (n : ℕ) → after_slash t ≡ Content n → n < length t
+tail_content : (t : List ℕ) (n : ℕ) → after_slash t ≡ Ok n → n < length t
 unfolding after_slash
 tail_content t n e = go (is_footer (drop (span printable t) t)) refl e
   where
-    go : (b : Bool) → is_footer (drop (span printable t) t) ≡ b → cond b (parted (take (span printable t) t)) (Refused 1) ≡ Content n
+    go : (b : Bool) → is_footer (drop (span printable t) t) ≡ b → cond b (parted (take (span printable t) t)) (Err NotLine) ≡ Ok n
         → n < length t
     go true f e =
         let x = take (span printable t) t in
         omega (arith, parted_fits x n e, span_le no_colon x, length-take (span printable t) t, footer_some t (span printable t) f)
     go false f e = let z : ◌≡◌ {A = ℕ} 0 1 = cc in absurd (omega arith)
 
-slashed_content : (l : List ℕ) (n : ℕ) → slashed l ≡ Content n → n + 1 < length l
+slashed_content : (l : List ℕ) (n : ℕ) → slashed l ≡ Ok n → n + 1 < length l
 unfolding slashed
 slashed_content [] n e = let z : ◌≡◌ {A = ℕ} 0 1 = cc in absurd (omega arith)
 slashed_content (c ∷ t) n e = go (eqb c slash) e
   where
-    go : (b : Bool) → cond b (after_slash t) (Refused 1) ≡ Content n → n + 1 < length (c ∷ t)
+    go : (b : Bool) → cond b (after_slash t) (Err NotLine) ≡ Ok n → n + 1 < length (c ∷ t)
     go true e = omega (arith, tail_content t n e)
     go false e = let z : ◌≡◌ {A = ℕ} 0 1 = cc in absurd (omega arith)
 
 -- a content stands between the `/` and the footer of a line that is not too long
-pub content_fits : (l : List ℕ) {r : Frame} (n : ℕ) → r ≡ frame_of l → r ≡ Content n → (n + 1 < length l) × (length l ≤ longest_line)
+pub content_fits : (l : List ℕ) {r : Frame} (n : ℕ) → r ≡ frame_of l → r ≡ Ok n → (n + 1 < length l) × (length l ≤ longest_line)
 unfolding frame_of
 content_fits l n q h = go (ltb longest_line (length l)) refl (sym q ∙ h)
   where
-    go : (b : Bool) → ltb longest_line (length l) ≡ b → cond b (Refused 2) (slashed l) ≡ Content n → (n + 1 < length l)
+    go : (b : Bool) → ltb longest_line (length l) ≡ b → cond b (Err TooLong) (slashed l) ≡ Ok n → (n + 1 < length l)
         × (length l ≤ longest_line)
     go true f e = let z : ◌≡◌ {A = ℕ} 0 1 = cc in absurd (omega arith)
     go false f e = (slashed_content l n e, ltb-false longest_line (length l) f)

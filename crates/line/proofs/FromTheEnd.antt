@@ -1,5 +1,7 @@
 -- The frame found from the line's end, as the code has it, is the one that specs/Reading.antt finds from its front.
 -- Assumes nothing.
+use Rattle.laws.specs.declared.Refusal.TheVariants.{NotLine, BadSum}
+use Rattle.std.specs.Prelude.{Err, Ok}
 use mathlib.Core.Path.{◌≡◌, refl, sym, ap, ◌∙◌}
 use mathlib.Core.Logic.{⊎_elim}
 use mathlib.Core.Bool.{Bool, true, false, cond, not, ◌&&◌}
@@ -15,14 +17,11 @@ use Rattle.laws.proofs.Bools.{and_false, and_assoc, and_left, and_right, clash}
 use Rattle.laws.proofs.Span.{span_not, span_le}
 use Rattle.laws.proofs.Lists.{rest}
 use Rattle.laws.proofs.Passes.{Passes, pass_append, pass_both, front_passes, take_passes, passes_all, all_passes}
-use Rattle.numbers.specs.Reading.{read_pair, says_sum}
-use Rattle.numbers.specs.declared.PairRead.{PairRead}
+use Rattle.numbers.specs.Reading.{read_pair, says_sum, PairRead}
 use Rattle.line.specs.Spelling.{Footer}
-use Rattle.line.specs.Reading.{printable, no_colon, is_end, is_footer, parted, after_slash, frame_of}
+use Rattle.line.specs.Reading.{printable, no_colon, is_end, is_footer, parted, after_slash, frame_of, Frame}
 use Rattle.line.specs.Refusals.{footer_size, body, not_line}
 use Rattle.line.specs.FromTheEnd.{plain, content_length, refused_body, body_read}
-use Rattle.line.specs.declared.Frame.{Frame}
-use Rattle.line.specs.declared.Frame.TheVariants.{Content, Refused}
 use Rattle.line.proofs.Frames.{colon_not, no_sum, not_3, sum_is, tail_yes, tail_not, slash_first}
 use Rattle.line.proofs.Composed.{footer_yes, footer_stops, footer_of, sum_printable, body_of, slash_cons}
 use Rattle.line.proofs.Ends.{body_is, is_line, Split, split, no_end, slash_printable}
@@ -78,7 +77,7 @@ frame_is b f k g fits =
 
 -- where 1 refuses, no footer stands behind the printable bytes
 pub footer_missing : (t : List ℕ) (b : Bool) → not_line (47 ∷ t) ≡ true → is_footer (drop (span printable t) t) ≡ b
-    → after_slash t ≡ Refused 1
+    → after_slash t ≡ Err NotLine
 footer_missing t false e h = tail_not t (span printable t) refl h
 footer_missing t true e h =
     let n = span printable t in
@@ -91,19 +90,19 @@ split_frame t s h =
     ∙ ap parted (sym (body_is s.front s.back s.passes s.footer)))
 
 slash_frame : (t : List ℕ) (b : Bool) → length (47 ∷ t) ≤ 80 → not_line (47 ∷ t) ≡ b
-    → frame_of (47 ∷ t) ≡ cond b (Refused 1) (parted (body (47 ∷ t)))
+    → frame_of (47 ∷ t) ≡ cond b (Err NotLine) (parted (body (47 ∷ t)))
 slash_frame t true h e = slash_first (47 ∷ t) h refl ∙ footer_missing t _ e refl
 slash_frame t false h e = split_frame t (split t e) h
 
 module _ (l : List ℕ) (fits : length l ≤ 80) (first : get_or l 0 0 ≡ 47) where
-  from_end : (b : Bool) → not_line l ≡ b → frame_of l ≡ cond b (Refused 1) (parted (body l))
+  from_end : (b : Bool) → not_line l ≡ b → frame_of l ≡ cond b (Err NotLine) (parted (body l))
   from_end b e = go (drop 1 l) (slash_cons l first) fits e
     where
-      go : (t : List ℕ) → l ≡ 47 ∷ t → length l ≤ 80 → not_line l ≡ b → frame_of l ≡ cond b (Refused 1) (parted (body l))
+      go : (t : List ℕ) → l ≡ 47 ∷ t → length l ≤ 80 → not_line l ≡ b → frame_of l ≡ cond b (Err NotLine) (parted (body l))
       go t q h e = rw q (slash_frame t b (rw q at h) (rw q at e))
 
   module _ {f : ℕ} (size : f ≡ footer_size l) where
-    pub footer_none : f ≡ 0 → Refused 1 ≡ frame_of l
+    pub footer_none : f ≡ 0 → Err NotLine ≡ frame_of l
     unfolding not_line
     footer_none h = sym (from_end true (simp (eq-eqb (get_or l 0 0) 47 first, eq-eqb (footer_size l) 0 (sym size ∙ h))))
 
@@ -158,23 +157,23 @@ all_split p (suc n) (c ∷ l) = rw (all_split p n l) (sym (and_assoc (p c) _ _))
 
 -- the tests of `refusal`
 module _ (s : List ℕ) (n : ℕ) (is : n ≡ span printable s) where
-  pub some_forbidden : n < length s → Refused 1 ≡ refused_body s
+  pub some_forbidden : n < length s → Err NotLine ≡ refused_body s
   unfolding refused_body
   some_forbidden h = go (all printable s) refl
     where
-      go : (t : Bool) → all printable s ≡ t → Refused 1 ≡ Refused (cond (all printable s) 3 1)
+      go : (t : Bool) → all printable s ≡ t → ◌≡◌ {A = Frame} (Err NotLine) (Err (cond (all printable s) BadSum NotLine))
       go true e = absurd (omega (arith, all_passes printable s e))
       go false e = rw e
 
-  pub none_forbidden : length s ≤ n → Refused 3 ≡ refused_body s
+  pub none_forbidden : length s ≤ n → Err BadSum ≡ refused_body s
   unfolding refused_body
   none_forbidden h = rw (passes_all printable s (omega (arith, span_le printable s)))
 
-body_refused : (b : List ℕ) → parted b ≡ Refused 3 → body_read b ≡ refused_body b
+body_refused : (b : List ℕ) → parted b ≡ Err BadSum → body_read b ≡ refused_body b
 unfolding body_read refused_body
 body_refused b e = go (all printable b)
   where
-    go : (t : Bool) → cond t (parted b) (Refused 1) ≡ Refused (cond t 3 1)
+    go : (t : Bool) → cond t (parted b) (Err NotLine) ≡ Err (cond t BadSum NotLine)
     go true = e
     go false = refl
 
@@ -226,7 +225,7 @@ module _ (b : List ℕ) (c : ℕ) (is : c ≡ content_length b) where
         let n : length (take c b) ≡ c = omega (arith, length-take c b) in
         sym (ap (span no_colon) (sym (take-append-drop c b)) ∙ pass_append no_colon (take c b) (drop c b) k d ∙ n)
 
-    pub no_checksum : length b ≤ c → Content c ≡ body_read b
+    pub no_checksum : length b ≤ c → Ok c ≡ body_read b
     unfolding body_read
     no_checksum l =
         let w : take c b ≡ b = take_all c b l in
@@ -237,10 +236,10 @@ module _ (b : List ℕ) (c : ℕ) (is : c ≡ content_length b) where
 
     -- the checksum is right
     pub checksum_right_lem : {p : PairRead} {t : Bool} → c < length b → p ≡ read_pair (get_or b (c + 1) 0) (get_or b (c + 2) 0)
-        → t ≡ says_sum (take c b) p → t ≡ true → Content c ≡ body_read b
+        → t ≡ says_sum (take c b) p → t ≡ true → Ok c ≡ body_read b
     unfolding body_read
     checksum_right_lem l q e h =
-        let r : parted b ≡ Content c = sum_is b c (colon-first l) true (behind_3 l) q (sym h ∙ e) in
+        let r : parted b ≡ Ok c = sum_is b c (colon-first l) true (behind_3 l) q (sym h ∙ e) in
         let w : Passes printable (take c b ++ drop c b) = pass_both printable _ _ printable-front (sum_printable (body_of b c r)) in
         rw (passes_all printable b (rw (take-append-drop c b) at w)) (sym r)
 
@@ -257,7 +256,7 @@ module _ (b : List ℕ) (c : ℕ) (is : c ≡ content_length b) where
   pub content_bad : {r : Frame} → all plain (take c b) ≡ false → r ≡ refused_body b → r ≡ body_read b
   content_bad bad g = g ∙ go (all printable b) refl
     where
-      misplaced : Passes printable b → parted b ≡ Refused 3
+      misplaced : Passes printable b → parted b ≡ Err BadSum
       misplaced k =
           let n = span no_colon b in
           let f : all printable (take c b) ≡ true = passes_all printable (take c b) (take_passes printable c b k) in

@@ -1,5 +1,6 @@
 -- A line that is read in two steps, its opening and what stands behind it, is read as specs/Reading.antt says.
 -- Assumes nothing.
+use Rattle.std.specs.Prelude.{Err, Ok, Result}
 use mathlib.Core.Path.{◌≡◌, refl, sym, ap, ◌∙◌}
 use mathlib.Core.Logic.{⊎_elim}
 use mathlib.Core.Bool.{Bool, true, false}
@@ -10,29 +11,26 @@ use native.Mathlib.Omega.{arith}
 use mir.Syntax.{w64}
 use mir.Val.{Fits}
 use lib.ListN.{length, take, drop, length-take}
-use Rattle.laws.specs.Refusals.{NOWHERE}
+use Rattle.laws.specs.Refusals.{NOWHERE, refusal_at}
 use Rattle.laws.proofs.Bools.{clash}
 use Rattle.laws.proofs.Order.{eq_or_ne}
-use Rattle.numbers.specs.Reading.{read_address}
-use Rattle.numbers.specs.declared.UnsignedRead.{UnsignedRead}
-use Rattle.numbers.specs.declared.UnsignedRead.TheVariants as Unsigned
+use Rattle.numbers.specs.Reading.{read_address, UnsignedRead}
 use Rattle.numbers.proofs.Places.{address_refused_lem}
 use Rattle.words.specs.Cutting.{Placed, behind, bytes_of, words_at, head_word, word_at}
 use Rattle.words.specs.declared.Word.{Word}
 use Rattle.words.proofs.Cut.{word_whole, word_within, words_empty, words_full, word_behind, first_stands}
 use Rattle.phrase.specs.Reading.{read_command}
-use Rattle.phrase.specs.declared.WordsRead.{WordsRead}
-use Rattle.line.specs.declared.Frame.{Frame}
+use Rattle.line.specs.declared.Addressed.{Addressed}
+use Rattle.line.specs.Reading.{Frame, frame_of, starts_number, axis_of, address_of, read_words, read_content, framed, read_line, LineRead, sent}
+use Rattle.laws.specs.declared.Refusal.{Refusal}
+use Rattle.laws.specs.declared.RefusedAt.{RefusedAt}
 use Rattle.line.specs.declared.Opening.{Opening}
-use Rattle.line.specs.declared.Opening.TheVariants.{Silent, Bare, To}
-use Rattle.line.specs.declared.LineRead.{LineRead}
-use Rattle.line.specs.declared.LineRead.TheVariants.{Addressed}
-use Rattle.line.specs.Reading.{frame_of, starts_number, axis_of, address_of, read_words, read_content, framed, read_line}
+use Rattle.line.specs.declared.Opening.TheVariants.{Bare, To}
 use Rattle.line.specs.Opening.{AddressPlaces, addressee, open_first, open_words, opened, open_line, read_on}
 use Rattle.line.proofs.Steps.{starts_none, take_whole}
 
 -- ---- what the code opens
-bare_first : (end : ℕ) (ws : List Placed) → starts_number (head_word (bytes_of ws)) ≡ false → Bare end ≡ open_first end ws
+bare_first : (end : ℕ) (ws : List Placed) → starts_number (head_word (bytes_of ws)) ≡ false → Ok (Bare end) ≡ open_first end ws
 unfolding open_first head_word
 bare_first end [] h = refl
 bare_first end (w ∷ ws) h = rw h
@@ -40,7 +38,7 @@ bare_first end (w ∷ ws) h = rw h
 module _ (s : List ℕ) {b : Bool} (is : b ≡ starts_number (head_word (bytes_of (words_at s 1)))) where
   pub open_address : b ≡ true → {w : Word} → w ≡ word_at s 1
       → {u : UnsignedRead} → u ≡ read_address (take (w.end - w.start) (drop w.start s))
-      → {r : Opening} → r ≡ addressee w.start u w.end (length s) → r ≡ open_words s
+      → {r : Result Opening RefusedAt} → r ≡ addressee w.start u w.end (length s) → r ≡ open_words s
   unfolding open_first head_word
   open_address h {w} q e z =
       ⊎_elim (λ n. clash (sym is ∙ h) (rw (words_empty s 1 q n) starts_none))
@@ -48,7 +46,7 @@ module _ (s : List ℕ) {b : Bool} (is : b ≡ starts_number (head_word (bytes_o
       rw (full, rw full at (sym is ∙ h), ← e, word_behind s 1 q n) z)
       (eq_or_ne w.start w.end)
 
-  pub open_bare : b ≡ false → Bare (length s) ≡ open_words s
+  pub open_bare : b ≡ false → Ok (Bare (length s)) ≡ open_words s
   open_bare h = bare_first (length s) (words_at s 1) (sym is ∙ h)
 
 -- where the address word refuses is a place of the line
@@ -57,29 +55,29 @@ pub address_places : (s : List ℕ) {w : Word} → w ≡ word_at s 1 → Fits w6
 address_places s {w} q size {u} e = go u e
   where
     go : (u : UnsignedRead) → u ≡ read_address (take (w.end - w.start) (drop w.start s)) → AddressPlaces w.start u
-    go (Unsigned.Value n) e = tt
-    go (Unsigned.Refused p) e =
+    go (Ok n) e = tt
+    go (Err p) e =
         let first = take (w.end - w.start) (drop w.start s) in
         let inside = ((address_refused_lem first p).0 (sym e)).1.inside in
         let long = length-take (w.end - w.start) (drop w.start s) in
         record { fits = omega (arith, inside, long, word_whole s 1 q, word_within s 1 q, size.fits) }
 
-module _ (l : List ℕ) {f : Frame} (is : f ≡ frame_of l) (n : ℕ) where
-  pub open_silent : f ≡ Frame.Refused n → Silent n NOWHERE ≡ open_line l
+module _ (l : List ℕ) {f : Frame} (is : f ≡ frame_of l) where
+  pub open_silent : (n : Refusal) → f ≡ Err n → Err (refusal_at n NOWHERE) ≡ open_line l
   unfolding open_line
-  open_silent h = rw (sym is ∙ h)
+  open_silent n h = rw (sym is ∙ h)
 
-  pub open_content : {o : Opening} → f ≡ Frame.Content n → o ≡ open_words (take (n + 1) l) → o ≡ open_line l
+  pub open_content : (n : ℕ) {o : Result Opening RefusedAt} → f ≡ Ok n → o ≡ open_words (take (n + 1) l) → o ≡ open_line l
   unfolding open_line
-  open_content h e = rw (sym is ∙ h) (e ∙ ap (λ (k : ℕ). open_words (take k l)) (add-one n))
+  open_content n h e = rw (sym is ∙ h) (e ∙ ap (λ (k : ℕ). open_words (take k l)) (add-one n))
 
 -- ---- what the code reads behind it
-module _ (l : List ℕ) {o : Opening} where
-  pub on_bare : (end : ℕ) → o ≡ Bare end → (t : List ℕ) → t ≡ take end l
-      → {r : WordsRead} → r ≡ read_command (words_at t 1) → Addressed 0 0 (length t) r ≡ read_on l o
-  on_bare end e t q p = rw (e, ← q, ← p)
+module _ (l : List ℕ) {o : Result Opening RefusedAt} where
+  pub on_bare : (end : ℕ) → o ≡ Ok (Bare end) → (t : List ℕ) → t ≡ take end l
+      → {r : Addressed} → r ≡ sent 0 0 (length t) (read_command (words_at t 1)) → Ok r ≡ read_on l o
+  on_bare end e t q p = rw (e, ← q) (ap Ok p)
 
-  pub on_to : (n at end : ℕ) → o ≡ To n at end → (t : List ℕ) → t ≡ take end l
+  pub on_to : (n at end : ℕ) → o ≡ Ok (To n at end) → (t : List ℕ) → t ≡ take end l
       → {r : LineRead} → r ≡ axis_of n (length t) (words_at t at) → r ≡ read_on l o
   on_to n at end e t q p = rw (e, ← q) p
 
@@ -94,16 +92,16 @@ content_opened l s e = go (words_at s 1) refl
       where
         address : (u : UnsignedRead) → read_address w.bytes ≡ u
             → read_on l (addressee w.start u (behind w) (length s)) ≡ address_of w.start u (length s) t
-        address (Unsigned.Refused p) r = refl
-        address (Unsigned.Value n) r = rw (e, (first_stands s 1 q).others)
+        address (Err p) r = refl
+        address (Ok n) r = rw (e, (first_stands s 1 q).others)
 
         by : (b : Bool) → starts_number w.bytes ≡ b → read_on l (open_first (length s) (w ∷ t)) ≡ read_words (length s) (w ∷ t)
         by true h = rw h (address (read_address w.bytes) refl)
         by false h = rw (h, e, q)
 
 frame_opened : (l : List ℕ) (f : Frame) → read_on l (opened l f) ≡ framed l f
-frame_opened l (Frame.Refused n) = refl
-frame_opened l (Frame.Content n) = content_opened l (take (suc n) l) (take_whole (suc n) l)
+frame_opened l (Err n) = refl
+frame_opened l (Ok n) = content_opened l (take (suc n) l) (take_whole (suc n) l)
 
 -- For every line, its opening and what is read behind it are what the line is read as.
 pub opened_read : (l : List ℕ) → read_on l (open_line l) ≡ read_line l

@@ -1,36 +1,33 @@
 -- A line is refused with the first of 2, 1, 3, 4, 10 and 11 that applies, each as specs/Refusals.antt says it, and at the place that
 -- specs/Place.antt says: for every line.
 -- Assumes nothing.
+use Rattle.laws.specs.declared.RefusedAt.{RefusedAt}
+use Rattle.laws.specs.declared.Refusal.{Refusal}
+use Rattle.std.specs.Prelude.{Err, Ok, Result}
 use mathlib.Core.Path.{◌≡◌, refl, ap, ◌∙◌}
 use mathlib.Core.Logic.{⊎_elim}
-use mathlib.Core.Bool.{Bool, true, false, cond}
+use mathlib.Core.Bool.{Bool, true, false}
 use mathlib.Core.List.{List, [], ◌∷◌, ◌++◌}
 use Prim.Native.Nat.{ℕ, suc, ◌+◌, ◌≤◌, ◌<◌}
 use native.Mathlib.Omega.{arith}
-use lib.Dec.{eqb}
 use lib.ListN.{length, get_or, take, drop}
 use lib.Seq.{take-append-le}
 use borrow.Author.Tests.{lt-ltb, le-ltb, ne_eqb}
-use Rattle.laws.specs.Refusals.{◌when◌, first_of, BADADDRESS, NOWHERE, in_byte}
+use Rattle.laws.specs.declared.Refusal.TheVariants.{BadAddress, NotLine, BadSum, BadCommand, BadData}
+use Rattle.laws.specs.Refusals.{◌when◌, first_of, NOWHERE, in_byte, refusal_at, Verdict}
 use Rattle.laws.proofs.Order.{lt_or_le, eq_or_ne}
 use Rattle.laws.proofs.Passes.{Passes}
 use Rattle.numbers.specs.Reading.{read_address}
-use Rattle.numbers.specs.declared.UnsignedRead.TheVariants as Unsigned
 use Rattle.words.specs.Cutting.{Placed, bytes_of, words_from, words_at}
-use Rattle.phrase.specs.Reading.{read_command}
+use Rattle.phrase.specs.Reading.{read_command, WordsRead}
 use Rattle.phrase.specs.Refusals.{bad_command, bad_data, words_number, words_refusal}
 use Rattle.phrase.specs.Place.{words_place, place_told}
-use Rattle.phrase.specs.declared.WordsRead.{WordsRead}
-use Rattle.phrase.specs.declared.WordsRead.TheVariants as Read
 use Rattle.phrase.proofs.Refused.{words_refused, words_placed}
 use Rattle.phrase.proofs.WordsNumbered.{NumberedWords, no_place, a_place, words_numbered}
 use Rattle.line.specs.Spelling.{Footer}
-use Rattle.line.specs.Reading.{printable, frame_of, starts_number, read_words, read_line, number_of, place_read, asked_by, read_asked}
+use Rattle.line.specs.Reading.{printable, frame_of, starts_number, read_words, read_line, number_of, place_read, asked_by, read_asked, LineRead, sent}
 use Rattle.line.specs.Refusals.{body, too_long, not_line, bad_sum, content, bad_address, own, words_in, refusal_of}
 use Rattle.line.specs.Place.{address_place, place_with, place_of}
-use Rattle.line.specs.declared.Frame.{Frame}
-use Rattle.line.specs.declared.LineRead.{LineRead}
-use Rattle.line.specs.declared.LineRead.TheVariants.{Silent, Addressed}
 use Rattle.line.specs.declared.Opening.{Opening}
 use Rattle.line.specs.Opening.{open_line, read_on}
 use Rattle.line.proofs.ByWords.{Own, by_words}
@@ -43,34 +40,32 @@ use Rattle.line.proofs.Sums.{Sums, bad, good, sums}
 use Rattle.line.proofs.FromTheEnd.{frame_is, footer_missing}
 
 -- ---- the words
-addressed_number : (n k end : ℕ) (r : WordsRead) → number_of (Addressed n k end r) ≡ words_number r
-addressed_number n k end (Read.Command c p) = refl
-addressed_number n k end (Read.Refused m p) = refl
+addressed_number : (n k end : ℕ) (r : WordsRead) → number_of (Ok (sent n k end r)) ≡ words_number r
+addressed_number n k end (Ok x) = refl
+addressed_number n k end (Err e) = refl
 
-abbrev from_words : List Placed → ℕ
-from_words ws = first_of (4 when bad_address ws ∷ 10 when bad_command (bytes_of (own ws)) ∷ 11 when bad_data (bytes_of (own ws)) ∷ [])
+abbrev from_words : List Placed → Verdict
+from_words ws = first_of (BadAddress when bad_address ws ∷ BadCommand when bad_command (bytes_of (own ws)) ∷ BadData when bad_data (bytes_of (own ws)) ∷ [])
 
 -- what is read of the words ws agrees with the tables: the number, and the place that goes with it
 abbrev Agrees : List Placed → LineRead → Type 0
 Agrees ws r = (number_of r ≡ from_words ws) × (place_read r ≡ place_with (number_of r) ws)
 
-own_agrees : (ws ts : List Placed) (n k end : ℕ) → Own ws ts → Agrees ws (Addressed n k end (read_command ts))
+own_agrees : (ws ts : List Placed) (n k end : ℕ) → Own ws ts → Agrees ws (Ok (sent n k end (read_command ts)))
 unfolding words_refusal first_of place_with
 own_agrees ws ts n k end o = (
   rw (o.right, o.are) (addressed_number n k end (read_command ts) ∙ words_refused ts),
-  rw o.are (go (read_command ts) (words_numbered ts) (words_placed ts)),
+  go (read_command ts) (words_numbered ts) (words_placed ts),
 )
   where
-    with_number : ℕ → ℕ
-    with_number m = cond (eqb m 4) (address_place ws) (cond (eqb m 11) (words_place ts) NOWHERE)
+    go : (r : WordsRead) → NumberedWords r → place_told r ≡ words_place ts
+        → place_told r ≡ place_with (number_of (Ok (sent n k end r))) ws
+    go (Ok x) h q = refl
+    go (Err e) no_place q = refl
+    go (Err e) a_place q = rw o.are q
 
-    go : (r : WordsRead) → NumberedWords r → place_told r ≡ words_place ts → place_told r ≡ with_number (number_of (Addressed n k end r))
-    go (Read.Command c p) h q = refl
-    go (Read.Refused m p) no_place q = refl
-    go (Read.Refused m p) a_place q = q
-
-wrong_agrees : (w : Placed) (t : List Placed) (p : ℕ) → starts_number w.bytes ≡ true → read_address w.bytes ≡ Unsigned.Refused p
-    → Agrees (w ∷ t) (Silent BADADDRESS (in_byte (w.start + p)))
+wrong_agrees : (w : Placed) (t : List Placed) (p : ℕ) → starts_number w.bytes ≡ true → read_address w.bytes ≡ Err p
+    → Agrees (w ∷ t) (Err (refusal_at BadAddress (in_byte (w.start + p))))
 unfolding bad_address first_of place_with address_place
 wrong_agrees w t p h q = (rw (h, q), rw q)
 
@@ -82,28 +77,28 @@ abbrev LineAgrees : List ℕ → Type 0
 LineAgrees l =
     (number_of (read_line l) ≡ refusal_of l)
     × (place_read (read_line l) ≡ place_of l)
-    × ((n : ℕ) → frame_of l ≡ Frame.Content n → words_in l ≡ words_at (take (suc n) l) 1)
+    × ((n : ℕ) → frame_of l ≡ Ok n → words_in l ≡ words_at (take (suc n) l) 1)
 
 -- a line whose frame is refused: no place is told
-no_frame : (l : List ℕ) {n : ℕ} → frame_of l ≡ Frame.Refused n → eqb n 4 ≡ false → eqb n 11 ≡ false → refusal_of l ≡ n → LineAgrees l
+no_frame : (l : List ℕ) {n : Refusal} → frame_of l ≡ Err n → place_with (Err n) (words_in l) ≡ NOWHERE → refusal_of l ≡ Err n → LineAgrees l
 unfolding read_line place_of place_with
-no_frame l q a b e = (rw (q, e), rw (q, e, a, b), (λ m c. let z : ◌≡◌ {A = ℕ} 0 1 = cc (q, c) in absurd (omega arith)))
+no_frame l q a e = (rw (q, e), rw (q, e, a), (λ m c. let z : ◌≡◌ {A = ℕ} 0 1 = cc (q, c) in absurd (omega arith)))
 
 too_long_refused : (l : List ℕ) → 80 < length l → LineAgrees l
-unfolding refusal_of first_of too_long
-too_long_refused l h = no_frame l (too_long_lem l h) refl refl (simp (lt-ltb 80 (length l) h))
+unfolding refusal_of first_of too_long place_with
+too_long_refused l h = no_frame l (too_long_lem l h) refl (simp (lt-ltb 80 (length l) h))
 
 -- a line that 2 does not refuse
 module _ (l : List ℕ) (fits : length l ≤ 80) where
-  not_line_refused : frame_of l ≡ Frame.Refused 1 → not_line l ≡ true → LineAgrees l
-  unfolding refusal_of first_of too_long
-  not_line_refused q e = no_frame l q refl refl (simp (le-ltb 80 (length l) fits, e))
+  not_line_refused : frame_of l ≡ Err NotLine → not_line l ≡ true → LineAgrees l
+  unfolding refusal_of first_of too_long place_with
+  not_line_refused q e = no_frame l q refl (simp (le-ltb 80 (length l) fits, e))
 
-  sum_refused : frame_of l ≡ Frame.Refused 3 → not_line l ≡ false → bad_sum (body l) ≡ true → LineAgrees l
-  unfolding refusal_of first_of too_long
-  sum_refused q e k = no_frame l q refl refl (simp (le-ltb 80 (length l) fits, e, k))
+  sum_refused : frame_of l ≡ Err BadSum → not_line l ≡ false → bad_sum (body l) ≡ true → LineAgrees l
+  unfolding refusal_of first_of too_long place_with
+  sum_refused q e k = no_frame l q refl (simp (le-ltb 80 (length l) fits, e, k))
 
-  words_answered : (n : ℕ) → frame_of l ≡ Frame.Content n → not_line l ≡ false → bad_sum (body l) ≡ false
+  words_answered : (n : ℕ) → frame_of l ≡ Ok n → not_line l ≡ false → bad_sum (body l) ≡ false
       → take n (drop 1 l) ≡ content (body l) → LineAgrees l
   unfolding read_line refusal_of first_of too_long place_of words_in
   words_answered n q e k c =
@@ -111,7 +106,7 @@ module _ (l : List ℕ) (fits : length l ≤ 80) where
       let agree = words_agree (length (take (suc n) l)) ws in
       let number : refusal_of l ≡ from_words ws = simp (le-ltb 80 (length l) fits, e, k) in (
         simp (q, behind_slash n l, c, number) agree.0,
-        simp (q, behind_slash n l, c, number) (agree.1 ∙ ap (λ (m : ℕ). place_with m ws) agree.0),
+        simp (q, behind_slash n l, c, number) (agree.1 ∙ ap (λ (v : Verdict). place_with v ws) agree.0),
         (λ m p. let same : n ≡ m = cc (q, p) in rw (← same, behind_slash n l, c)),
       )
 
@@ -153,12 +148,12 @@ pub line_placed : (l : List ℕ) → place_read (read_line l) ≡ place_of l
 line_placed l = (agrees l).1
 
 -- where the frame has a content of n bytes, the line's words are those that are read
-pub line_words_lem : (l : List ℕ) (n : ℕ) → frame_of l ≡ Frame.Content n → words_in l ≡ words_at (take (suc n) l) 1
+pub line_words_lem : (l : List ℕ) (n : ℕ) → frame_of l ≡ Ok n → words_in l ≡ words_at (take (suc n) l) 1
 line_words_lem l = (agrees l).2
 
 -- what `read_line` promises of its answer: where the opening is this line's, its number and its place are those of the tables, and
 -- its command is the one that the line is read as
-pub answered : {r : LineRead} (l : List ℕ) (o : Opening) → r ≡ read_on l o
+pub answered : {r : LineRead} (l : List ℕ) (o : Result Opening RefusedAt) → r ≡ read_on l o
     → (r ≡ read_on l o) × ((o ≡ open_line l → number_of r ≡ refusal_of l)
     × ((o ≡ open_line l → place_read r ≡ place_of l) × (o ≡ open_line l → asked_by l r ≡ read_asked l)))
 unfolding read_asked

@@ -1,5 +1,6 @@
 -- The cases of the reading of address, axis and line, as the tests of the code have them.
 -- Assumes nothing.
+use Rattle.std.specs.Prelude.{Ok}
 use mathlib.Core.Path.{◌≡◌, refl, sym, ap, ◌∙◌}
 use mathlib.Core.Logic.{⊎_elim}
 use mathlib.Core.Bool.{true, false}
@@ -19,10 +20,9 @@ use Rattle.words.specs.Cutting.{no_space, bytes_of, words_at, head_word, start_o
 use Rattle.words.proofs.Space.{other_yes, other_not}
 use Rattle.words.proofs.Cut.{head_at, words_none, words_some}
 use Rattle.phrase.specs.Reading.{read_command}
-use Rattle.phrase.specs.declared.WordsRead.{WordsRead}
-use Rattle.line.specs.Reading.{begins_number, starts_number, axis_digit, axis_of}
+use Rattle.line.specs.declared.Addressed.{Addressed}
+use Rattle.line.specs.Reading.{begins_number, starts_number, axis_digit, axis_of, sent}
 use Rattle.line.specs.Opening.{digit_at}
-use Rattle.line.specs.declared.LineRead.TheVariants.{Addressed}
 
 -- ---- a byte that begins a number
 pub begins_plus : (c : ℕ) → c ≡ 43 → begins_number c ≡ true
@@ -141,17 +141,17 @@ module _ (s : List ℕ) (at : ℕ) {a : ℕ} (q : a ≡ start_of s at) where
         omega (arith, length-take (end_of s a - a) (drop a s), length-drop a s)
 
   module _ (n : ℕ) {d : ℕ} (is : d ≡ digit_at s a) where
-    pub with_axis : {r : WordsRead} → d < 10 → r ≡ read_command (words_at s (a + 1))
-        → Addressed n d (length s) r ≡ axis_of n (length s) (words_at s at)
+    pub with_axis : {r : Addressed} → d < 10 → r ≡ sent n d (length s) (read_command (words_at s (a + 1)))
+        → Ok r ≡ axis_of n (length s) (words_at s at)
     unfolding axis_of
     with_axis h e =
         let l = axis_there s a is h in
-        rw (words_some s at q l, ← axis-first l, ← is, lt-ltb d 10 h, ← behind-axis l (rw is at h)) (ap (Addressed n d (length s)) e)
+        rw (words_some s at q l, ← axis-first l, ← is, lt-ltb d 10 h, ← behind-axis l (rw is at h)) (ap Ok e)
 
-    pub without_axis : {r : WordsRead} → 10 ≤ d → r ≡ read_command (words_at s at)
-        → Addressed n 0 (length s) r ≡ axis_of n (length s) (words_at s at)
+    pub without_axis : {r : Addressed} → 10 ≤ d → r ≡ sent n 0 (length s) (read_command (words_at s at))
+        → Ok r ≡ axis_of n (length s) (words_at s at)
     unfolding axis_of
-    without_axis h e = ap (Addressed n 0 (length s)) e ∙ ⊎_elim
+    without_axis h e = ap Ok e ∙ ⊎_elim
         (λ (l : a < length s). rw (words_some s at q l, ← axis-first l, ← is, le-ltb d 10 h))
         (λ (l : length s ≤ a). rw (words_none s at q l))
         (lt_or_le a (length s))

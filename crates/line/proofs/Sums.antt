@@ -1,5 +1,7 @@
 -- The checksum of a body as specs/Refusals.antt finds it, at the end, is the one that the reading finds behind the first colon.
 -- Assumes nothing.
+use Rattle.laws.specs.declared.Refusal.TheVariants.{BadSum}
+use Rattle.std.specs.Prelude.{Ok, Err}
 use mathlib.Core.Path.{◌≡◌, refl, sym, ap, ◌∙◌}
 use mathlib.Core.Logic.{⊎_elim}
 use mathlib.Core.Bool.{Bool, true, false}
@@ -18,14 +20,13 @@ use Rattle.laws.proofs.Passes.{Passes, pass_append, front_passes, passes_all, al
 use Rattle.numbers.specs.Reading.{read_pair, says_sum}
 use Rattle.line.specs.Reading.{no_colon, parted}
 use Rattle.line.specs.Refusals.{checksum_right, bad_sum, content}
-use Rattle.line.specs.declared.Frame.{Frame}
 use Rattle.line.proofs.Frames.{colon_not, no_sum, not_3, sum_is}
 use Rattle.line.proofs.Composed.{stop_byte}
 
 -- a body is refused with 3, or has its content
 pub data Sums (b : List ℕ) : Type 0 where
-  bad : bad_sum b ≡ true → parted b ≡ Frame.Refused 3 → Sums b
-  good : (n : ℕ) → bad_sum b ≡ false → parted b ≡ Frame.Content n → n ≤ length b → take n b ≡ content b → Sums b
+  bad : bad_sum b ≡ true → parted b ≡ Err BadSum → Sums b
+  good : (n : ℕ) → bad_sum b ≡ false → parted b ≡ Ok n → n ≤ length b → take n b ≡ content b → Sums b
 
 pub colon_here : (b : List ℕ) → span no_colon b < length b → get_or b (span no_colon b) 0 ≡ 58
 colon_here b h =

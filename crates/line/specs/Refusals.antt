@@ -1,12 +1,11 @@
 -- Document 01's table of refusals, as far as a line alone can be refused: when each applies, said apart from the others.
 -- Nothing here says in what order a line is looked at. proofs/Refused.antt shows that the reading agrees for every line.
-use Rattle.std.specs.Prelude.{Bool, true, false, cond, not, ◌&&◌, ◌||◌, List, [], ◌∷◌, ℕ, ◌-◌, eqb, ltb, leb, length, get_or, take, drop}
+use Rattle.std.specs.Prelude.{Bool, true, false, cond, not, ◌&&◌, ◌||◌, List, [], ◌∷◌, ℕ, ◌-◌, eqb, ltb, leb, length, get_or, take, drop, Err, Ok}
 use Rattle.laws.specs.Lists.{all}
 use Rattle.laws.specs.Text.{slash, colon}
-use Rattle.laws.specs.Refusals.{◌when◌, first_of, TOOLONG, NOTLINE, BADSUM, BADADDRESS, BADCOMMAND, BADDATA}
-use Rattle.numbers.specs.Reading.{read_address, read_pair, says_sum}
-use Rattle.numbers.specs.declared.UnsignedRead.{UnsignedRead}
-use Rattle.numbers.specs.declared.UnsignedRead.TheVariants as Unsigned
+use Rattle.laws.specs.declared.Refusal.TheVariants.{TooLong, NotLine, BadSum, BadAddress, BadCommand, BadData}
+use Rattle.laws.specs.Refusals.{Verdict, ◌when◌, first_of}
+use Rattle.numbers.specs.Reading.{read_address, read_pair, says_sum, UnsignedRead}
 use Rattle.words.specs.Cutting.{Placed, bytes_of, words_from}
 use Rattle.phrase.specs.Refusals.{bad_command, bad_data}
 use Rattle.line.specs.Spelling.{longest_line}
@@ -45,8 +44,8 @@ content b = cond (all no_colon b) b (take (length b - 3) b)
 
 -- 4, "address word outside the rule": "A first word that begins with a digit, `+` or `-` is always the address word."
 abbrev pub is_address : UnsignedRead → Bool
-is_address (Unsigned.Value n) = true
-is_address (Unsigned.Refused p) = false
+is_address (Ok n) = true
+is_address (Err p) = false
 
 unfoldable pub bad_address : List Placed → Bool
 bad_address [] = false
@@ -65,15 +64,15 @@ own (w ∷ ws) = cond (starts_number w.bytes) (behind_axis ws) (w ∷ ws)
 unfoldable pub words_in : List ℕ → List Placed
 words_in l = words_from 1 (content (body l))
 
--- the number of a line's refusal: 2, 1, 3, 4, 10, 11, in this order; 0 where none applies
-unfoldable pub refusal_of : List ℕ → ℕ
+-- a line's refusal: 2, 1, 3, 4, 10, 11, in this order
+unfoldable pub refusal_of : List ℕ → Verdict
 refusal_of l =
     let ws = words_in l in
     first_of
-    (TOOLONG when too_long l
-    ∷ NOTLINE when not_line l
-    ∷ BADSUM when bad_sum (body l)
-    ∷ BADADDRESS when bad_address ws
-    ∷ BADCOMMAND when bad_command (bytes_of (own ws))
-    ∷ BADDATA when bad_data (bytes_of (own ws))
+    (TooLong when too_long l
+    ∷ NotLine when not_line l
+    ∷ BadSum when bad_sum (body l)
+    ∷ BadAddress when bad_address ws
+    ∷ BadCommand when bad_command (bytes_of (own ws))
+    ∷ BadData when bad_data (bytes_of (own ws))
     ∷ [])

@@ -7,8 +7,8 @@ ghost use Rattle.line.specs.Reading.{printable, is_end, is_footer, frame_of};
 ghost use Rattle.line.specs.Refusals.{footer_size};
 ghost use Rattle.line.specs.FromTheEnd.{plain, content_length, refused_body, body_read};
 
-use crate::{Frame, LONGEST_LINE};
-use laws::{BADSUM, NOTLINE, TOOLONG};
+use crate::LONGEST_LINE;
+use laws::Refusal;
 
 // How many bytes from the front are no forbidden ones.
 pub fn printable_len(s: &[u8]) -> usize
@@ -93,26 +93,26 @@ fn content_len(b: &[u8]) -> usize
 }
 
 // The refusal of bytes with a colon out of place or a wrong checksum: a forbidden byte among them is told first.
-fn refusal(s: &[u8]) -> Frame
+fn refusal(s: &[u8]) -> Result<usize, Refusal>
     ensures { result ≡ refused_body s.now }
 {
     if printable_len(s) < s.len() {
-        return Frame::Refused(NOTLINE);
+        return Err(Refusal::NotLine);
     }
-    Frame::Refused(BADSUM)
+    Err(Refusal::BadSum)
 }
 
 // The bytes between `/` and footer.
-fn read_body(b: &[u8]) -> Frame
+fn read_body(b: &[u8]) -> Result<usize, Refusal>
     ensures { result ≡ body_read b.now }
 {
     let c = content_len(b);
     if all_plain(&b[..c]) {
         if b.len() <= c {
-            return Frame::Content(c);
+            return Ok(c);
         }
         if numbers::reading::says_sum(&b[..c], numbers::reading::read_pair(b[c + 1], b[c + 2])) {
-            return Frame::Content(c);
+            return Ok(c);
         }
         return refusal(&b[c..]);
     }
@@ -120,21 +120,21 @@ fn read_body(b: &[u8]) -> Frame
 }
 
 // The frame of a line.
-pub(crate) fn read_frame(s: &[u8]) -> Frame
+pub(crate) fn read_frame(s: &[u8]) -> Result<usize, Refusal>
     ensures { result ≡ frame_of s.now }
 {
     if LONGEST_LINE < s.len() {
-        return Frame::Refused(TOOLONG);
+        return Err(Refusal::TooLong);
     }
     if s.len() == 0 {
-        return Frame::Refused(NOTLINE);
+        return Err(Refusal::NotLine);
     }
     if s[0] != b'/' {
-        return Frame::Refused(NOTLINE);
+        return Err(Refusal::NotLine);
     }
     let f = footer_size(s);
     if f == 0 {
-        return Frame::Refused(NOTLINE);
+        return Err(Refusal::NotLine);
     }
     read_body(&s[1..s.len() - f])
 }

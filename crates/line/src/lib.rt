@@ -5,44 +5,36 @@
 ghost use Rattle.std.specs.Prelude.{◌≡◌};
 ghost use Rattle.line.specs.Reading.{place_read};
 
-use phrase::WordsRead;
+use laws::RefusedAt;
+use phrase::Worded;
 
 // "at most 80 bytes in all"
 pub const LONGEST_LINE: usize = 80;
 
-// What stands between `/` and footer: so many bytes of content; or the refusal 2, 1 or 3.
-#[derive(Clone, Copy)]
-pub enum Frame {
-    Content(usize),
-    Refused(u8),
-}
-
-// A line whose frame and address are read, and no more of it: silence, with its number and its place; no address, and the place
-// where its content ends; or an address, the place behind it, and the place where its content ends.
+// A line whose frame and address are read, and no more of it: no address, and the place where its content ends; or an address, the
+// place behind it, and the place where its content ends.
 #[derive(Clone, Copy)]
 pub enum Opening {
-    Silent(u8, u8),
     Bare(usize),
     To(u64, usize, usize),
 }
 
-// What a line is: silence, with its number and the place that made it refuse; or an address, an axis, the place where its content
-// ends, and what the command's words come to.
+// A line that is read as far as an address: an axis, the place where its content ends, and what the command's words come to.
 #[derive(Clone, Copy)]
-pub enum LineRead {
-    Silent(u8, u8),
-    Addressed(u64, u64, usize, WordsRead),
+pub struct Addressed {
+    pub address: u64,
+    pub axis: u64,
+    pub end: usize,
+    pub words: Result<Worded, RefusedAt>,
 }
 
-impl LineRead {
-    // The place that is told with a refusal, counted from 0 at the `/`; 255 where there is none.
-    pub fn place(self) -> u8
-        ensures { result ≡ place_read self }
-    {
-        match self {
-            LineRead::Silent(_, p) => p,
-            LineRead::Addressed(_, _, _, w) => w.place(),
-        }
+// The place that is told with a refusal, counted from 0 at the `/`; 255 where there is none.
+pub fn place_read(read: Result<Addressed, RefusedAt>) -> u8
+    ensures { result ≡ place_read read }
+{
+    match read {
+        Err(e) => e.place,
+        Ok(x) => phrase::place_told(x.words),
     }
 }
 

@@ -3,15 +3,15 @@
 // specs/Opening.antt; proofs/Demand3.antt shows that just what is spelled is read.
 ghost use Rattle.std.specs.Prelude.{◌≡◌, length, take};
 ghost use Rattle.words.specs.Cutting.{bytes_of, words_at, head_word};
-ghost use Rattle.line.specs.Reading.{begins_number, starts_number, axis_of, number_of, place_read, asked_by, read_asked};
+ghost use Rattle.phrase.specs.Reading.{read_command};
+ghost use Rattle.line.specs.Reading.{sent, begins_number, starts_number, axis_of, number_of, place_read, asked_by, read_asked};
 ghost use Rattle.line.specs.Refusals.{refusal_of};
 ghost use Rattle.line.specs.Place.{place_of};
 ghost use Rattle.line.specs.Opening.{digit_at, AddressPlaces, addressee, open_words, open_line, read_on};
 
 use crate::framing::read_frame;
-use crate::{Frame, LineRead, Opening};
-use laws::{BADADDRESS, NOWHERE};
-use numbers::UnsignedRead;
+use crate::{Addressed, Opening};
+use laws::{NOWHERE, Refusal, RefusedAt};
 use numbers::digits::{NO_DIGIT, digit_value};
 use units::lesser;
 
@@ -55,31 +55,48 @@ fn digit_at(s: &[u8], i: usize) -> u64
     NO_DIGIT
 }
 
+// What a line up to the end of its content says to an address and an axis, in the words of a command from a place on.
+fn addressed(s: &[u8], at: usize, address: u64, axis: u64) -> Addressed
+    ensures { result ≡ sent address axis (length s.now) (read_command (words_at s.now at)) }
+{
+    Addressed {
+        address,
+        axis,
+        end: s.len(),
+        words: phrase::reading::read_command(s, at),
+    }
+}
+
 // The words behind the address n, from a place on.
-fn read_axis(s: &[u8], at: usize, n: u64) -> LineRead
+fn read_axis(s: &[u8], at: usize, n: u64) -> Result<Addressed, RefusedAt>
     ensures { result ≡ axis_of n (length s.now) (words_at s.now at) }
 {
     let i = words::start_of(s, at);
     let d = digit_at(s, i);
     if d < 10 {
-        return LineRead::Addressed(n, d, s.len(), phrase::reading::read_command(s, i + 1));
+        return Ok(addressed(s, i + 1, n, d));
     }
-    LineRead::Addressed(n, 0, s.len(), phrase::reading::read_command(s, at))
+    Ok(addressed(s, at, n, 0))
 }
 
 // A first word that starts at a place and comes to a as an address; the content goes on from a place up to its end.
-fn addressee_of(start: usize, a: UnsignedRead, at: usize, end: usize) -> Opening
+fn addressee_of(
+    start: usize,
+    a: Result<u64, usize>,
+    at: usize,
+    end: usize,
+) -> Result<Opening, RefusedAt>
     requires { AddressPlaces start a }
     ensures { result ≡ addressee start a at end }
 {
     match a {
-        UnsignedRead::Refused(p) => Opening::Silent(BADADDRESS, ((start + p) % 256) as u8),
-        UnsignedRead::Value(n) => Opening::To(n, at, end),
+        Err(p) => Err(Refusal::BadAddress.at(start + p)),
+        Ok(n) => Ok(Opening::To(n, at, end)),
     }
 }
 
 // The address of a line up to the end of its content.
-fn open_words(s: &[u8]) -> Opening
+fn open_words(s: &[u8]) -> Result<Opening, RefusedAt>
     ensures { result ≡ open_words s.now }
 {
     if number_at(s, 1) {
@@ -89,16 +106,19 @@ fn open_words(s: &[u8]) -> Opening
         let a = numbers::reading::read_address(&s[start..end]);
         return addressee_of(start, a, end, s.len());
     }
-    Opening::Bare(s.len())
+    Ok(Opening::Bare(s.len()))
 }
 
 // A line's frame and address.
-pub fn open_line(s: &[u8]) -> Opening
+pub fn open_line(s: &[u8]) -> Result<Opening, RefusedAt>
     ensures { result ≡ open_line s.now }
 {
     match read_frame(s) {
-        Frame::Refused(n) => Opening::Silent(n, NOWHERE),
-        Frame::Content(c) => open_words(&s[..c + 1]),
+        Err(n) => Err(RefusedAt {
+            refusal: n,
+            place: NOWHERE,
+        }),
+        Ok(c) => open_words(&s[..c + 1]),
     }
 }
 
@@ -111,18 +131,14 @@ fn up_to(s: &[u8], end: usize) -> &[u8]
 }
 
 // A line, from its opening on.
-pub fn read_line(s: &[u8], o: Opening) -> LineRead
+pub fn read_line(s: &[u8], o: Result<Opening, RefusedAt>) -> Result<Addressed, RefusedAt>
     ensures read { result ≡ read_on s.now o }
     ensures number { o ≡ open_line s.now → number_of result ≡ refusal_of s.now }
     ensures place { o ≡ open_line s.now → place_read result ≡ place_of s.now }
     ensures asked { o ≡ open_line s.now → asked_by s.now result ≡ read_asked s.now }
 {
-    match o {
-        Opening::Silent(n, p) => LineRead::Silent(n, p),
-        Opening::Bare(end) => {
-            let t = up_to(s, end);
-            LineRead::Addressed(0, 0, t.len(), phrase::reading::read_command(t, 1))
-        }
+    match o? {
+        Opening::Bare(end) => Ok(addressed(up_to(s, end), 1, 0, 0)),
         Opening::To(n, at, end) => read_axis(up_to(s, end), at, n),
     }
 }

@@ -1,5 +1,6 @@
 -- The answers of `read_number` and `read_pair`, by the first byte and by the digits.
 -- Assumes nothing.
+use Rattle.std.specs.Prelude.{Err, None, Some}
 use mathlib.Core.Path.{◌≡◌, refl}
 use mathlib.Core.List.{List, [], ◌∷◌}
 use Prim.Native.Nat.{ℕ, ◌+◌, ◌*◌, ◌≤◌, ◌<◌}
@@ -8,10 +9,8 @@ use lib.ListN.{length, get_or, drop}
 use borrow.Author.Tests.{eq-eqb, ne_eqb, lt-ltb, le-ltb}
 use Rattle.laws.proofs.Bools.{and_false}
 use Rattle.numbers.specs.Reading.{value_of, unsigned_from, above, below, read_number, read_pair}
-use Rattle.numbers.specs.declared.NumberRead.TheVariants as Number
-use Rattle.numbers.specs.declared.PairRead.TheVariants as Pair
 
-pub read_none : (w : List ℕ) → length w ≡ 0 → Number.Refused 0 ≡ read_number w
+pub read_none : (w : List ℕ) → length w ≡ 0 → Err 0 ≡ read_number w
 unfolding read_number
 read_none [] h = refl
 read_none (c ∷ s) h = absurd (omega arith)
@@ -33,14 +32,14 @@ read_bare [] h e f = absurd (h refl)
 read_bare (c ∷ s) h e f = rw (ne_eqb c 45 e, ne_eqb c 43 f)
 
 module _ (h l : ℕ) where
-  pub no_high : 16 ≤ value_of h → read_pair h l ≡ Pair.Refused
+  pub no_high : 16 ≤ value_of h → read_pair h l ≡ None
   unfolding read_pair
   no_high k = simp (le-ltb (value_of h) 16 k)
 
-  pub no_low : 16 ≤ value_of l → read_pair h l ≡ Pair.Refused
+  pub no_low : 16 ≤ value_of l → read_pair h l ≡ None
   unfolding read_pair
   no_low k = simp (le-ltb (value_of l) 16 k, and_false)
 
-  pub both : value_of h < 16 → value_of l < 16 → read_pair h l ≡ Pair.Value (value_of h * 16 + value_of l)
+  pub both : value_of h < 16 → value_of l < 16 → read_pair h l ≡ Some (value_of h * 16 + value_of l)
   unfolding read_pair
   both j k = simp (lt-ltb (value_of h) 16 j, lt-ltb (value_of l) 16 k)

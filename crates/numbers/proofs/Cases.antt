@@ -1,26 +1,23 @@
 -- Words and what they are read as, closed by computation: the ends of the range, both bases, and each kind of refusal.
 -- A refusal's place is counted from 0 in the word.
+use Rattle.std.specs.Prelude.{Err, Ok}
 use mathlib.Core.Path.{◌≡◌, refl}
 use mathlib.Core.List.{List, [], ◌∷◌, map}
 use Prim.Native.Nat.{ℕ}
 use Prim.Native.String.{String}
 use lib.IntN.{ℤ, pos, negsuc}
 use Rattle.laws.specs.Text.{text, same}
-use Rattle.numbers.specs.Reading.{value_of, scan, digits_from, starts_hex, unsigned_from, read_address, read_number}
-use Rattle.numbers.specs.declared.UnsignedRead.{UnsignedRead}
-use Rattle.numbers.specs.declared.UnsignedRead.TheVariants as Unsigned
-use Rattle.numbers.specs.declared.NumberRead.{NumberRead}
-use Rattle.numbers.specs.declared.NumberRead.TheVariants as Number
+use Rattle.numbers.specs.Reading.{value_of, scan, digits_from, starts_hex, unsigned_from, read_address, read_number, UnsignedRead, NumberRead}
 
 pub record Row (R : Type 0) : Type 0 where
   pub word : String
   pub answer : R
 
 abbrev is : String → ℤ → Row NumberRead
-is w v = record { word = w; answer = Number.Value (record { 0 = v }) }
+is w v = record { word = w; answer = Ok (record { 0 = v }) }
 
 abbrev stops : String → ℕ → Row NumberRead
-stops w p = record { word = w; answer = Number.Refused p }
+stops w p = record { word = w; answer = Err p }
 
 unfoldable pub numbers : List (Row NumberRead)
 numbers =
@@ -52,10 +49,10 @@ unfolding numbers read_number unsigned_from starts_hex digits_from scan value_of
 number_cases = refl
 
 abbrev at : String → ℕ → Row UnsignedRead
-at w n = record { word = w; answer = Unsigned.Value n }
+at w n = record { word = w; answer = Ok n }
 
 abbrev none : String → ℕ → Row UnsignedRead
-none w p = record { word = w; answer = Unsigned.Refused p }
+none w p = record { word = w; answer = Err p }
 
 unfoldable pub addresses : List (Row UnsignedRead)
 addresses = at "0" 0 ∷ at "099" 99 ∷ at "0x63" 99 ∷ none "0x64" 3 ∷ none "100" 2 ∷ none "100x" 2 ∷ none "-1" 0 ∷ none "+1" 0 ∷ none "0x" 2

@@ -1,5 +1,6 @@
 -- The place that a refusal tells is the length of the longest front that some number's word begins with.
 -- For numbers and for addresses. Assumes nothing.
+use Rattle.std.specs.Prelude.{Err, Ok}
 use mathlib.Core.Path.{◌≡◌, refl, sym, ap, subst, ◌∙◌}
 use mathlib.Core.Logic.{◌↔◌, ◌⊎◌, inl, inr, ⊎_elim}
 use mathlib.Core.Bool.{Bool, true, false}
@@ -11,12 +12,8 @@ use lib.ListN.{length, take, drop}
 use Rattle.laws.specs.Text.{text}
 use Rattle.laws.proofs.Order.{lt_or_le, eq_or_ne}
 use Rattle.numbers.specs.Place.{ANumber, AnAddress, LongestFront}
-use Rattle.numbers.specs.Reading.{value_of, scan, digits_from, starts_hex, unsigned_from, read_address, above, below, read_number}
+use Rattle.numbers.specs.Reading.{value_of, scan, digits_from, starts_hex, unsigned_from, read_address, above, below, read_number, UnsignedRead, NumberRead}
 use Rattle.numbers.specs.Spelling.{bare}
-use Rattle.numbers.specs.declared.UnsignedRead.{UnsignedRead}
-use Rattle.numbers.specs.declared.UnsignedRead.TheVariants.{Value, Refused}
-use Rattle.numbers.specs.declared.NumberRead.{NumberRead}
-use Rattle.numbers.specs.declared.NumberRead.TheVariants as Number
 use Rattle.numbers.proofs.Value as value
 use Rattle.numbers.proofs.Scan.{scan_digit, scan_stop, scan_past, hex_one, hex_not_0, hex_second, unsigned_hex, unsigned_decimal}
 use Rattle.numbers.proofs.Front.{Stops, stops_end, stops_here, stops_behind, stops_beyond, stops_longest, refused_iff}
@@ -25,10 +22,10 @@ use Rattle.numbers.proofs.Answers as answers
 
 -- a reader f that gives a value, and one that refuses at place p
 Reads : (List ℕ → UnsignedRead) → List ℕ → Type 0
-Reads f s = (n : ℕ) × (f s ≡ Value n)
+Reads f s = (n : ℕ) × (f s ≡ Ok n)
 
 Refuses : (List ℕ → UnsignedRead) → ℕ → List ℕ → Type 0
-Refuses f p s = f s ≡ Refused p
+Refuses f p s = f s ≡ Err p
 
 -- a reader that begins at place i and refuses at place p stops p - i bytes behind
 record StopsAt (f : List ℕ → UnsignedRead) (i : ℕ) (s : List ℕ) (p : ℕ) : Type 0 where
@@ -36,11 +33,11 @@ record StopsAt (f : List ℕ → UnsignedRead) (i : ℕ) (s : List ℕ) (p : ℕ
   place : p ≡ i + passed
   stops : Stops (Reads f) (Refuses f p) s passed
 
-refused_is : {p q : ℕ} → ◌≡◌ {A = UnsignedRead} (Refused p) (Refused q) → p ≡ q
+refused_is : {p q : ℕ} → ◌≡◌ {A = UnsignedRead} (Err p) (Err q) → p ≡ q
 refused_is e = cc
 
 -- ---- digits
-scan_stops : (b most n i : ℕ) (s : List ℕ) (p : ℕ) → scan b most n i s ≡ Refused p → StopsAt (scan b most n i) i s p
+scan_stops : (b most n i : ℕ) (s : List ℕ) (p : ℕ) → scan b most n i s ≡ Err p → StopsAt (scan b most n i) i s p
 unfolding scan Reads Refuses
 scan_stops b most n i [] p e = let z : ◌≡◌ {A = ℕ} 0 1 = cc in absurd (omega arith)
 scan_stops b most n i (c ∷ s) p e =
@@ -50,10 +47,10 @@ scan_stops b most n i (c ∷ s) p e =
     (λ h. here (λ t. scan_stop b most n i c t h))
     (lt_or_le (value_of c) b)
   where
-    here : ((t : List ℕ) → scan b most n i (c ∷ t) ≡ Refused i) → StopsAt (scan b most n i) i (c ∷ s) p
+    here : ((t : List ℕ) → scan b most n i (c ∷ t) ≡ Err i) → StopsAt (scan b most n i) i (c ∷ s) p
     here f =
         let q : i ≡ p = refused_is (sym (f s) ∙ e) in
-        record { passed = 0; place = omega arith; stops = stops_here [] (n, refl) (λ t. f t ∙ ap Refused q) }
+        record { passed = 0; place = omega arith; stops = stops_here [] (n, refl) (λ t. f t ∙ ap Err q) }
 
     further : value_of c < b → n * b + value_of c ≤ most → StopsAt (scan b most (n * b + value_of c) (suc i)) (suc i) s p
         → StopsAt (scan b most n i) i (c ∷ s) p
@@ -67,13 +64,13 @@ scan_stops b most n i (c ∷ s) p e =
 
 -- a nought is read in any base, so that it can always follow where a digit may
 module _ (b most i : ℕ) (some : 0 < b) where
-  nought : digits_from b most i (48 ∷ []) ≡ Value (0 * b + value_of 48)
+  nought : digits_from b most i (48 ∷ []) ≡ Ok (0 * b + value_of 48)
   unfolding digits_from scan
   nought =
       let z = value.figure_value 48 (omega arith) (omega arith) in
       scan_digit b most 0 i 48 [] (omega arith) (omega arith)
 
-  digits_stops : (s : List ℕ) (p : ℕ) → digits_from b most i s ≡ Refused p → StopsAt (digits_from b most i) i s p
+  digits_stops : (s : List ℕ) (p : ℕ) → digits_from b most i s ≡ Err p → StopsAt (digits_from b most i) i s p
   unfolding digits_from Reads Refuses
   digits_stops [] p e =
       let q : i ≡ p = refused_is e in
@@ -90,7 +87,7 @@ module _ (b most i : ℕ) (some : 0 < b) where
 
 -- ---- unsigned numbers
 module _ (most i : ℕ) where
-  hex_stops : (s : List ℕ) (p : ℕ) → digits_from 16 most (i + 2) s ≡ Refused p → StopsAt (unsigned_from most i) i (48 ∷ 120 ∷ s) p
+  hex_stops : (s : List ℕ) (p : ℕ) → digits_from 16 most (i + 2) s ≡ Err p → StopsAt (unsigned_from most i) i (48 ∷ 120 ∷ s) p
   unfolding Reads Refuses
   hex_stops s p e =
       let r = digits_stops 16 most (i + 2) (omega arith) s p e in
@@ -116,11 +113,11 @@ module _ (most i : ℕ) where
     where
       no_nought : c ≡ 48 → ⊥
       no_nought z =
-          let e : digits_from 10 most i (48 ∷ []) ≡ Refused p = rw z at (r.stays 1 l m []) in
+          let e : digits_from 10 most i (48 ∷ []) ≡ Err p = rw z at (r.stays 1 l m []) in
           let y : ◌≡◌ {A = ℕ} 0 1 = cc (nought 10 most i (omega arith)) in
           omega arith
 
-  decimal_stops : (s : List ℕ) (p : ℕ) → starts_hex s ≡ false → digits_from 10 most i s ≡ Refused p → StopsAt (unsigned_from most i) i s p
+  decimal_stops : (s : List ℕ) (p : ℕ) → starts_hex s ≡ false → digits_from 10 most i s ≡ Err p → StopsAt (unsigned_from most i) i s p
   unfolding Reads Refuses
   decimal_stops s p h e =
       let r = digits_stops 10 most i (omega arith) s p e in
@@ -137,7 +134,7 @@ module _ (most i : ℕ) where
             };
       }
 
-  unsigned_stops : (s : List ℕ) (p : ℕ) → unsigned_from most i s ≡ Refused p → StopsAt (unsigned_from most i) i s p
+  unsigned_stops : (s : List ℕ) (p : ℕ) → unsigned_from most i s ≡ Err p → StopsAt (unsigned_from most i) i s p
   unfolding text
   unsigned_stops s p e = go (starts_hex s) refl
     where
@@ -147,25 +144,25 @@ module _ (most i : ℕ) where
 
 -- ---- numbers
 abbrev NumberReads : List ℕ → Type 0
-NumberReads s = (v : ℤ) × (read_number s ≡ Number.Value (record { 0 = v }))
+NumberReads s = (v : ℤ) × (read_number s ≡ Ok (record { 0 = v }))
 
 abbrev NumberRefuses : ℕ → List ℕ → Type 0
-NumberRefuses p s = read_number s ≡ Number.Refused p
+NumberRefuses p s = read_number s ≡ Err p
 
-above_refused : (m : UnsignedRead) (p : ℕ) → above m ≡ Number.Refused p → m ≡ Refused p
-above_refused (Value n) p e = let z : ◌≡◌ {A = ℕ} 0 1 = cc in absurd (omega arith)
-above_refused (Refused q) p e = let z : q ≡ p = cc in rw z
+above_refused : (m : UnsignedRead) (p : ℕ) → above m ≡ Err p → m ≡ Err p
+above_refused (Ok n) p e = let z : ◌≡◌ {A = ℕ} 0 1 = cc in absurd (omega arith)
+above_refused (Err q) p e = let z : q ≡ p = cc in rw z
 
-below_refused : (m : UnsignedRead) (p : ℕ) → below m ≡ Number.Refused p → m ≡ Refused p
-below_refused (Value n) p e = let z : ◌≡◌ {A = ℕ} 0 1 = cc in absurd (omega arith)
-below_refused (Refused q) p e = let z : q ≡ p = cc in rw z
+below_refused : (m : UnsignedRead) (p : ℕ) → below m ≡ Err p → m ≡ Err p
+below_refused (Ok n) p e = let z : ◌≡◌ {A = ℕ} 0 1 = cc in absurd (omega arith)
+below_refused (Err q) p e = let z : q ≡ p = cc in rw z
 
 -- an unsigned number that is read is a number without a sign
 bare_read : (x : List ℕ) → Reads (unsigned_from 2147483647 0) x → NumberReads x
 unfolding Reads
 bare_read x v = let u = unsigned_is 2147483647 0 x v.0 v.1 in (pos v.0, number_read (bare u.0 u.1))
 
-number_stops : (w : List ℕ) (p : ℕ) → read_number w ≡ Number.Refused p → Stops NumberReads (NumberRefuses p) w p
+number_stops : (w : List ℕ) (p : ℕ) → read_number w ≡ Err p → Stops NumberReads (NumberRefuses p) w p
 unfolding read_number Reads Refuses
 number_stops [] p e =
     let z : 0 ≡ p = cc in
@@ -185,9 +182,9 @@ number_stops (c ∷ s) p e =
     (eq_or_ne c 45)
   where
     -- behind a sign
-    behind : (sign : UnsignedRead → NumberRead) (signed : ℕ → ℤ) → ((n : ℕ) → sign (Value n) ≡ Number.Value (record { 0 = signed n }))
-        → ((q : ℕ) → sign (Refused q) ≡ Number.Refused q)
-        → (most : ℕ) → ((x : List ℕ) → read_number (c ∷ x) ≡ sign (unsigned_from most 1 x)) → unsigned_from most 1 s ≡ Refused p
+    behind : (sign : UnsignedRead → NumberRead) (signed : ℕ → ℤ) → ((n : ℕ) → sign (Ok n) ≡ Ok (record { 0 = signed n }))
+        → ((q : ℕ) → sign (Err q) ≡ Err q)
+        → (most : ℕ) → ((x : List ℕ) → read_number (c ∷ x) ≡ sign (unsigned_from most 1 x)) → unsigned_from most 1 s ≡ Err p
         → Stops NumberReads (NumberRefuses p) (c ∷ s) p
     behind sign signed value-is refused most reads r =
         let u = unsigned_stops most 1 s p r in
@@ -206,33 +203,33 @@ number_stops (c ∷ s) p e =
         (record { inside = f.inside; rest = f.rest; begins = bare_read _ f.begins; stays = stays f })
       where
         stays : {k : ℕ} → Stops (Reads (unsigned_from 2147483647 0)) (Refuses (unsigned_from 2147483647 0) p) (c ∷ s) k
-            → (q : ℕ) → k < q → q ≤ length (c ∷ s) → (t : List ℕ) → read_number (take q (c ∷ s) ++ t) ≡ Number.Refused p
+            → (q : ℕ) → k < q → q ≤ length (c ∷ s) → (t : List ℕ) → read_number (take q (c ∷ s) ++ t) ≡ Err p
         stays f zero h l t = absurd (omega arith)
         stays f (suc q) h l t = none (take q s ++ t) ∙ ap above (f.stays (suc q) h l t)
 
 -- ---- what the place means
 
-number_never : (w : List ℕ) (p : ℕ) → read_number w ≡ Number.Refused p → ANumber w → ⊥
+number_never : (w : List ℕ) (p : ℕ) → read_number w ≡ Err p → ANumber w → ⊥
 number_never w p e n = let z : ◌≡◌ {A = ℕ} 0 1 = cc (number_read n.1) in omega arith
 
-number_place : (w : List ℕ) (p : ℕ) → read_number w ≡ Number.Refused p → LongestFront ANumber w p
+number_place : (w : List ℕ) (p : ℕ) → read_number w ≡ Err p → LongestFront ANumber w p
 number_place w p e = stops_longest (λ x v. (v.0, number_of x v.0 v.1)) (λ x r. number_never x p r) (number_stops w p e)
 
-number_either : (w : List ℕ) → ANumber w ⊎ ((p : ℕ) × (read_number w ≡ Number.Refused p))
+number_either : (w : List ℕ) → ANumber w ⊎ ((p : ℕ) × (read_number w ≡ Err p))
 number_either w = go (read_number w) refl
   where
-    go : (r : NumberRead) → read_number w ≡ r → ANumber w ⊎ ((p : ℕ) × (read_number w ≡ Number.Refused p))
-    go (Number.Value v) e = inl (v.0, number_of w v.0 e)
-    go (Number.Refused p) e = inr (p, e)
+    go : (r : NumberRead) → read_number w ≡ r → ANumber w ⊎ ((p : ℕ) × (read_number w ≡ Err p))
+    go (Ok v) e = inl (v.0, number_of w v.0 e)
+    go (Err p) e = inr (p, e)
 
 -- The reader refuses a word at place p exactly where the word is no number's, and p is the length of its longest front that begins one.
-pub number_refused : (w : List ℕ) (p : ℕ) → (read_number w ≡ Number.Refused p) ↔ ((ANumber w → ⊥) × LongestFront ANumber w p)
-number_refused = refused_iff read_number Number.Refused ANumber number_never number_place number_either
+pub number_refused : (w : List ℕ) (p : ℕ) → (read_number w ≡ Err p) ↔ ((ANumber w → ⊥) × LongestFront ANumber w p)
+number_refused = refused_iff read_number Err ANumber number_never number_place number_either
 
-address_never : (w : List ℕ) (p : ℕ) → read_address w ≡ Refused p → AnAddress w → ⊥
+address_never : (w : List ℕ) (p : ℕ) → read_address w ≡ Err p → AnAddress w → ⊥
 address_never w p e n = let z : ◌≡◌ {A = ℕ} 0 1 = cc (address_read n.1) in omega arith
 
-address_place_lem : (w : List ℕ) (p : ℕ) → read_address w ≡ Refused p → LongestFront AnAddress w p
+address_place_lem : (w : List ℕ) (p : ℕ) → read_address w ≡ Err p → LongestFront AnAddress w p
 unfolding read_address Reads Refuses
 address_place_lem w p e =
     let u = unsigned_stops 99 0 w p e in
@@ -240,13 +237,13 @@ address_place_lem w p e =
     subst (λ (k : ℕ). LongestFront AnAddress w k) z
     (stops_longest (λ x v. (v.0, address_of_lem x v.0 v.1)) (λ x r. address_never x p r) u.stops)
 
-address_either : (w : List ℕ) → AnAddress w ⊎ ((p : ℕ) × (read_address w ≡ Refused p))
+address_either : (w : List ℕ) → AnAddress w ⊎ ((p : ℕ) × (read_address w ≡ Err p))
 address_either w = go (read_address w) refl
   where
-    go : (r : UnsignedRead) → read_address w ≡ r → AnAddress w ⊎ ((p : ℕ) × (read_address w ≡ Refused p))
-    go (Value n) e = inl (n, address_of_lem w n e)
-    go (Refused p) e = inr (p, e)
+    go : (r : UnsignedRead) → read_address w ≡ r → AnAddress w ⊎ ((p : ℕ) × (read_address w ≡ Err p))
+    go (Ok n) e = inl (n, address_of_lem w n e)
+    go (Err p) e = inr (p, e)
 
 -- The same for an address.
-pub address_refused_lem : (w : List ℕ) (p : ℕ) → (read_address w ≡ Refused p) ↔ ((AnAddress w → ⊥) × LongestFront AnAddress w p)
-address_refused_lem = refused_iff read_address Refused AnAddress address_never address_place_lem address_either
+pub address_refused_lem : (w : List ℕ) (p : ℕ) → (read_address w ≡ Err p) ↔ ((AnAddress w → ⊥) × LongestFront AnAddress w p)
+address_refused_lem = refused_iff read_address Err AnAddress address_never address_place_lem address_either

@@ -1,5 +1,6 @@
 -- Reading digits one after the other, and the `0x` before them: each way that a step can go.
 -- Assumes nothing.
+use Rattle.std.specs.Prelude.{Err, Ok}
 use mathlib.Core.Path.{◌≡◌, refl, sym, subst, ◌∙◌}
 use mathlib.Core.Logic.{⊎_elim}
 use mathlib.Core.Bool.{Bool, true, false, cond, ◌&&◌}
@@ -19,9 +20,7 @@ use Rattle.laws.proofs.Order.{lt_or_le}
 use Rattle.laws.proofs.Same.{same_is, same_flip}
 use Rattle.std.specs.List.{starts_with}
 use Rattle.laws.proofs.Bools.{and_false, and_right, clash}
-use Rattle.numbers.specs.Reading.{value_of, scan, digits_from, starts_hex, unsigned_from, AtMost}
-use Rattle.numbers.specs.declared.UnsignedRead.{UnsignedRead}
-use Rattle.numbers.specs.declared.UnsignedRead.TheVariants.{Value, Refused}
+use Rattle.numbers.specs.Reading.{value_of, scan, digits_from, starts_hex, unsigned_from, AtMost, UnsignedRead}
 
 -- whether the byte may stand there: a digit that may, a byte that is no digit, a digit that carries the value past `most`
 module _ (b most n i c : ℕ) (s : List ℕ) where
@@ -33,22 +32,22 @@ module _ (b most n i c : ℕ) (s : List ℕ) where
   pub scan_small : (ltb (value_of c) b && leb (n * b + value_of c) most) ≡ true → n * b + value_of c ≤ most
   scan_small h = leb-true (n * b + value_of c) most (and_right (ltb (value_of c) b) (leb (n * b + value_of c) most) h)
 
-  pub scan_ends : (ltb (value_of c) b && leb (n * b + value_of c) most) ≡ false → scan b most n i (c ∷ s) ≡ Refused i
+  pub scan_ends : (ltb (value_of c) b && leb (n * b + value_of c) most) ≡ false → scan b most n i (c ∷ s) ≡ Err i
   unfolding scan
   scan_ends h = rw h
 
   pub scan_digit : value_of c < b → n * b + value_of c ≤ most → scan b most n i (c ∷ s) ≡ scan b most (n * b + value_of c) (suc i) s
   scan_digit h k = scan_goes (simp (lt-ltb (value_of c) b h, le-leb (n * b + value_of c) most k))
 
-  pub scan_stop : b ≤ value_of c → scan b most n i (c ∷ s) ≡ Refused i
+  pub scan_stop : b ≤ value_of c → scan b most n i (c ∷ s) ≡ Err i
   scan_stop h = scan_ends (simp (le-ltb (value_of c) b h))
 
-  pub scan_past : most < n * b + value_of c → scan b most n i (c ∷ s) ≡ Refused i
+  pub scan_past : most < n * b + value_of c → scan b most n i (c ∷ s) ≡ Err i
   scan_past h = scan_ends (simp (lt-leb (n * b + value_of c) most h, and_false))
 
 -- the loop of `digits`: reading on from place i with the number n is reading from the first place on
 module _ (b most from : ℕ) (w : List ℕ) where
-  pub digits_none : length w ≤ from → Refused from ≡ digits_from b most from (drop from w)
+  pub digits_none : length w ≤ from → Err from ≡ digits_from b most from (drop from w)
   unfolding digits_from
   digits_none h = rw (drop_of_length-le w h)
 
@@ -57,7 +56,7 @@ module _ (b most from : ℕ) (w : List ℕ) where
   digits_first h = rw (drop-cons w from 0 h)
 
   module _ (n i : ℕ) (so : scan b most n i (drop i w) ≡ digits_from b most from (drop from w)) where
-    pub digits_end : length w ≤ i → Value n ≡ digits_from b most from (drop from w)
+    pub digits_end : length w ≤ i → Ok n ≡ digits_from b most from (drop from w)
     unfolding scan
     digits_end h = rw (drop_of_length-le w h) at so
 
@@ -66,7 +65,7 @@ module _ (b most from : ℕ) (w : List ℕ) where
       here = rw (drop-cons w i 0 h) at so
 
       pub digits_stop : (ltb (value_of (get_or w i 0)) b && leb (n * b + value_of (get_or w i 0)) most) ≡ false
-          → Refused i ≡ digits_from b most from (drop from w)
+          → Err i ≡ digits_from b most from (drop from w)
       digits_stop k = sym (scan_ends b most n i (get_or w i 0) (drop (suc i) w) k) ∙ here
 
       pub digits_small : (ltb (value_of (get_or w i 0)) b && leb (n * b + value_of (get_or w i 0)) most) ≡ true
@@ -126,7 +125,7 @@ unfolding starts_hex same text
 hex_end w i h = rw (drop_of_length-le w h)
 
 -- what is read so is never above `most`
-pub at_most : {most n : ℕ} (m : UnsignedRead) → AtMost most m → m ≡ Value n → n ≤ most
+pub at_most : {most n : ℕ} (m : UnsignedRead) → AtMost most m → m ≡ Ok n → n ≤ most
 at_most {most} m h e = subst (λ (x : UnsignedRead). AtMost most x) e h
 
 scan_most : (b most n i : ℕ) (s : List ℕ) → n ≤ most → AtMost most (scan b most n i s)

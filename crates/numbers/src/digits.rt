@@ -3,8 +3,6 @@
 ghost use Rattle.std.specs.Prelude.{◌≡◌, drop};
 ghost use Rattle.numbers.specs.Reading.{value_of, digits_from, starts_hex, unsigned_from};
 
-use crate::UnsignedRead;
-
 // What a byte stands for that is no digit: more than any digit.
 pub const NO_DIGIT: u64 = 99;
 
@@ -22,11 +20,11 @@ pub fn digit_value(c: u8) -> u64
 }
 
 // One digit or more from a place on, none of which carries the value past `most`.
-fn digits(w: &[u8], from: usize, base: u8, most: u32) -> UnsignedRead
+fn digits(w: &[u8], from: usize, base: u8, most: u32) -> Result<u64, usize>
     ensures { result ≡ digits_from base most from (drop from w.now) }
 {
     if w.len() <= from {
-        return UnsignedRead::Refused(from);
+        return Err(from);
     }
     let b = base as u64;
     let m = most as u64;
@@ -37,10 +35,10 @@ fn digits(w: &[u8], from: usize, base: u8, most: u32) -> UnsignedRead
         if (d < b) & (next <= m) {
             n = next;
         } else {
-            return UnsignedRead::Refused(i);
+            return Err(i);
         }
     }
-    UnsignedRead::Value(n)
+    Ok(n)
 }
 
 // Does `0x` stand at the place?
@@ -55,7 +53,7 @@ fn starts_hex(w: &[u8], from: usize) -> bool
 }
 
 // `0x` and hex digits, or decimal digits, from a place on.
-pub(crate) fn unsigned(w: &[u8], from: usize, most: u32) -> UnsignedRead
+pub(crate) fn unsigned(w: &[u8], from: usize, most: u32) -> Result<u64, usize>
     ensures { result ≡ unsigned_from most from (drop from w.now) }
 {
     if starts_hex(w, from) {

@@ -10,26 +10,6 @@ use units::Number;
 // "an unsigned number 0 to 99"
 pub const HIGHEST_ADDRESS: u32 = 99;
 
-// An unsigned number; or the place of the refusal.
-#[derive(Clone, Copy)]
-pub enum UnsignedRead {
-    Value(u64),
-    Refused(usize),
-}
-
-#[derive(Clone, Copy)]
-pub enum NumberRead {
-    Value(Number),
-    Refused(usize),
-}
-
-// A byte that two hex digits say.
-#[derive(Clone, Copy)]
-pub enum PairRead {
-    Value(u8),
-    Refused,
-}
-
 // The sum of the bytes, negated modulo 256.
 pub fn checksum(s: &[u8]) -> u8
     ensures { result ≡ checksumOf s.now }

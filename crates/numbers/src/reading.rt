@@ -3,48 +3,41 @@
 ghost use Rattle.std.specs.Prelude.{◌≡◌};
 ghost use Rattle.numbers.specs.Reading.{AtMost, read_address as address_in, above, below, read_number as number_in, read_pair as pairIn, says_sum};
 
+use crate::HIGHEST_ADDRESS;
 use crate::digits::{digit_value, unsigned};
-use crate::{HIGHEST_ADDRESS, NumberRead, PairRead, UnsignedRead};
 use units::Number;
 
 // A word as an address.
-pub fn read_address(w: &[u8]) -> UnsignedRead
+pub fn read_address(w: &[u8]) -> Result<u64, usize>
     ensures { result ≡ address_in w.now }
 {
     unsigned(w, 0, HIGHEST_ADDRESS)
 }
 
 // The number that lies so far above zero.
-fn number_above(m: UnsignedRead) -> NumberRead
+fn number_above(m: Result<u64, usize>) -> Result<Number, usize>
     requires { AtMost 2147483647 m }
     ensures { result ≡ above m }
 {
-    match m {
-        UnsignedRead::Refused(p) => NumberRead::Refused(p),
-        UnsignedRead::Value(n) => NumberRead::Value(Number(n as i32)),
-    }
+    let n = m?;
+    Ok(Number(n as i32))
 }
 
 // The number that lies so far below zero: the furthest has no opposite in 32 bits.
-fn number_below(m: UnsignedRead) -> NumberRead
+fn number_below(m: Result<u64, usize>) -> Result<Number, usize>
     requires { AtMost 2147483648 m }
     ensures { result ≡ below m }
 {
-    match m {
-        UnsignedRead::Refused(p) => NumberRead::Refused(p),
-        UnsignedRead::Value(n) => {
-            let v = n as i64;
-            NumberRead::Value(Number((0 - v) as i32))
-        }
-    }
+    let v = m? as i64;
+    Ok(Number((0 - v) as i32))
 }
 
 // A word as a number.
-pub fn read_number(w: &[u8]) -> NumberRead
+pub fn read_number(w: &[u8]) -> Result<Number, usize>
     ensures { result ≡ number_in w.now }
 {
     if w.len() == 0 {
-        return NumberRead::Refused(0);
+        return Err(0);
     }
     if w[0] == b'-' {
         return number_below(unsigned(w, 1, 2147483648));
@@ -56,26 +49,23 @@ pub fn read_number(w: &[u8]) -> NumberRead
 }
 
 // Two hex digits as a byte.
-pub fn read_pair(h: u8, l: u8) -> PairRead
+pub fn read_pair(h: u8, l: u8) -> Option<u8>
     ensures { result ≡ pairIn h l }
 {
     let high = digit_value(h);
     let low = digit_value(l);
     if 16 <= high {
-        return PairRead::Refused;
+        return None;
     }
     if 16 <= low {
-        return PairRead::Refused;
+        return None;
     }
-    PairRead::Value((high * 16 + low) as u8)
+    Some((high * 16 + low) as u8)
 }
 
 // Does the pair say the checksum of s?
-pub fn says_sum(s: &[u8], p: PairRead) -> bool
+pub fn says_sum(s: &[u8], p: Option<u8>) -> bool
     ensures { result ≡ says_sum s.now p }
 {
-    match p {
-        PairRead::Value(n) => n == crate::checksum(s),
-        PairRead::Refused => false,
-    }
+    p == Some(crate::checksum(s))
 }

@@ -1,5 +1,6 @@
 -- A word among others: what holds of each of them, and of a word that differs from all, holds of every word; a ladder of names.
 -- Assumes nothing.
+use Rattle.std.specs.Prelude.{None}
 use mathlib.Core.Path.{◌≡◌, refl, sym, ◌∙◌}
 use mathlib.Core.Bool.{Bool, true, false}
 use mathlib.Core.List.{List, [], ◌∷◌, map, ◌++◌}
@@ -14,7 +15,6 @@ use Rattle.words.specs.Find.{Entry, index, meaning_of, entry_at}
 use Rattle.words.proofs.Index.{distinct, place}
 use Rattle.words.proofs.Table.{meaning_at}
 use Rattle.command.specs.Settings.{axis_settings, device_settings, name_of}
-use Rattle.phrase.specs.declared.SettingRead.TheVariants.{Unknown}
 use Rattle.phrase.specs.Reading.{unknown, misspelt, firsts, moves, tools, parkings, device_names, names}
 
 -- what holds of each element, listed in order
@@ -79,10 +79,10 @@ pub parkings_apart : distinct (words_of misspelt (parkings [])) ≡ true
 unfolding distinct index same text
 parkings_apart = refl
 
-pub device_names_apart : distinct (words_of Unknown device_names) ≡ true
+pub device_names_apart : distinct (words_of None device_names) ≡ true
 unfolding distinct index same text device_settings name_of
 device_names_apart = refl
 
-pub names_apart : distinct (words_of Unknown names) ≡ true
+pub names_apart : distinct (words_of None names) ≡ true
 unfolding distinct index same text axis_settings device_settings name_of
 names_apart = refl

@@ -1,17 +1,17 @@
 -- Words are refused with 10 or 11 exactly where document 01's table says so, 10 before 11, and at the place that it says.
 -- Assumes nothing.
+use Rattle.std.specs.Prelude.{Err, None, Ok, Some}
 use mathlib.Core.Path.{◌≡◌, refl, ap, ◌∙◌}
 use mathlib.Core.Bool.{Bool, true, false, cond, not, ◌&&◌, ◌||◌}
 use mathlib.Core.List.{List, [], ◌∷◌, map}
 use Prim.Native.Nat.{ℕ}
 use Rattle.laws.specs.Lists.{fold}
 use Rattle.laws.specs.Text.{text, same}
-use Rattle.laws.specs.Refusals.{◌when◌, first_of, NOWHERE}
+use Rattle.laws.specs.declared.Refusal.TheVariants.{BadCommand, BadData}
+use Rattle.laws.specs.Refusals.{Verdict, ACCEPTED, ◌when◌, first_of, NOWHERE}
 use Rattle.laws.proofs.Bools.{and_false}
 use Rattle.laws.proofs.Each.{none}
-use Rattle.numbers.specs.Reading.{read_number}
-use Rattle.numbers.specs.declared.NumberRead.{NumberRead}
-use Rattle.numbers.specs.declared.NumberRead.TheVariants as Number
+use Rattle.numbers.specs.Reading.{read_number, NumberRead}
 use Rattle.words.specs.Cutting.{Placed, placed, bytes_of}
 use Rattle.words.specs.Find.{Entry, meaning_of}
 use Rattle.command.specs.Settings.{read_only}
@@ -23,17 +23,14 @@ use Rattle.command.specs.declared.Target.TheVariants.{Min, Max}
 use Rattle.command.specs.Commands.{Place, N, get_command}
 use Rattle.phrase.specs.declared.Numbered.{Numbered}
 use Rattle.phrase.specs.declared.Numbered.TheVariants as With
-use Rattle.phrase.specs.declared.SettingRead.{SettingRead}
-use Rattle.phrase.specs.declared.SettingRead.TheVariants.{Is, Unknown}
-use Rattle.phrase.specs.Reading.{ended, made, one_number, moves, read_move, read_setting, read_get, read_set, read_storepos, parkings, read_parking, tools, read_tools, read_warnings, read_help, firsts, read_command}
-use Rattle.phrase.specs.declared.WordsRead.{WordsRead}
+use Rattle.phrase.specs.Reading.{SettingRead, ended, made, one_number, moves, read_move, read_setting, read_get, read_set, read_storepos, parkings, read_parking, tools, read_tools, read_warnings, read_help, firsts, read_command, WordsRead}
 use Rattle.phrase.specs.Refusals.{begin_so, just_so, is_number, bad_command, bad_data, words_number, words_refusal}
 use Rattle.phrase.specs.Place.{other_words_fit, or_else, first_refused, place_among, words_place, place_told}
 use Rattle.phrase.proofs.Among.{◌also◌, among}
 
 -- the number that the table gives
-abbrev given : Bool → Bool → ℕ
-given a b = first_of (10 when a ∷ 11 when b ∷ [])
+abbrev given : Bool → Bool → Verdict
+given a b = first_of (BadCommand when a ∷ BadData when b ∷ [])
 
 abbrev words_of : List (Entry WordsRead) → List (List ℕ)
 words_of es = map (λ (e : Entry WordsRead). e.word) es
@@ -45,7 +42,7 @@ Agrees ws =
     × (place_told (read_command ws) ≡ words_place ws)
 
 -- what stands behind the front of a row
-fit : (b : Bool) → cond b 0 11 ≡ given false (not (b || false))
+fit : (b : Bool) → cond b ACCEPTED (Err BadData) ≡ given false (not (b || false))
 unfolding first_of
 fit true = refl
 fit false = refl
@@ -68,8 +65,8 @@ number_fits k (w ∷ []) = go (read_number w.bytes)
   where
     go : (r : NumberRead) → (words_number (made k w.start r) ≡ given false (not (is_number r && true || false)))
         × (place_told (made k w.start r) ≡ or_else w.start r NOWHERE)
-    go (Number.Value n) = (fit true, refl)
-    go (Number.Refused p) = (fit false, refl)
+    go (Ok n) = (fit true, refl)
+    go (Err p) = (fit false, refl)
 number_fits k (w ∷ v ∷ t) = (simp and_false (fit false), refl)
 
 -- any words may stand behind the front: none has a place
@@ -101,8 +98,8 @@ module _ (i : ℕ) where
 
   after_get : (u : Placed) (t : List Placed) (x : SettingRead) → read_setting u.bytes ≡ x → Agrees (placed i (text "get") ∷ u ∷ t)
   unfolding read_command read_get meaning_of tables
-  after_get u t Unknown q = rw q (refl, refl)
-  after_get u t (Is s) q = rw q (ended_fits (get_command s) t)
+  after_get u t None q = rw q (refl, refl)
+  after_get u t (Some s) q = rw q (ended_fits (get_command s) t)
 
   get_agrees : (ws : List Placed) → Agrees (placed i (text "get") ∷ ws)
   unfolding read_command read_get meaning_of tables
@@ -111,8 +108,8 @@ module _ (i : ℕ) where
 
   after_set : (u : Placed) (t : List Placed) (x : SettingRead) → read_setting u.bytes ≡ x → Agrees (placed i (text "set") ∷ u ∷ t)
   unfolding read_command read_set meaning_of tables
-  after_set u t Unknown q = rw q (refl, refl)
-  after_set u t (Is s) q = go (read_only s) refl
+  after_set u t None q = rw q (refl, refl)
+  after_set u t (Some s) q = go (read_only s) refl
     where
       go : (b : Bool) → read_only s ≡ b → Agrees (placed i (text "set") ∷ u ∷ t)
       go true r = rw (q, r) (refl, refl)
@@ -133,19 +130,19 @@ module _ (i : ℕ) where
     storepos-agrees (w ∷ []) = go (read_number w.bytes) refl
       where
         go : (x : NumberRead) → read_number w.bytes ≡ x → Storepos (w ∷ [])
-        go (Number.Value n) q = rw q (refl, refl)
-        go (Number.Refused o) q = rw q (refl, refl)
+        go (Ok n) q = rw q (refl, refl)
+        go (Err o) q = rw q (refl, refl)
     storepos-agrees (w ∷ v ∷ []) = go (same v.bytes (text "current")) refl (read_number w.bytes) refl (read_number v.bytes) refl
       where
         go : (b : Bool) → same v.bytes (text "current") ≡ b → (x : NumberRead) → read_number w.bytes ≡ x
             → (y : NumberRead) → read_number v.bytes ≡ y → Storepos (w ∷ v ∷ [])
-        go true e (Number.Value n) q (Number.Value m) r = rw (e, q, r) (refl, refl)
-        go true e (Number.Value n) q (Number.Refused o) r = rw (e, q, r) (refl, refl)
-        go true e (Number.Refused o) q (Number.Value m) r = rw (e, q, r) (refl, refl)
-        go true e (Number.Refused o) q (Number.Refused p) r = rw (e, q, r) (refl, refl)
-        go false e (Number.Value n) q (Number.Value m) r = rw (e, q, r) (refl, refl)
-        go false e (Number.Value n) q (Number.Refused o) r = rw (e, q, r) (refl, refl)
-        go false e (Number.Refused o) q y r = rw (e, q) (refl, refl)
+        go true e (Ok n) q (Ok m) r = rw (e, q, r) (refl, refl)
+        go true e (Ok n) q (Err o) r = rw (e, q, r) (refl, refl)
+        go true e (Err o) q (Ok m) r = rw (e, q, r) (refl, refl)
+        go true e (Err o) q (Err p) r = rw (e, q, r) (refl, refl)
+        go false e (Ok n) q (Ok m) r = rw (e, q, r) (refl, refl)
+        go false e (Ok n) q (Err o) r = rw (e, q, r) (refl, refl)
+        go false e (Err o) q y r = rw (e, q) (refl, refl)
     storepos-agrees (w ∷ v ∷ u ∷ t) = simp and_false (refl, refl)
 
     abbrev Parking : List Placed → Type 0

@@ -1,5 +1,6 @@
 -- The cases of the reading of a command's words, as the tests of the code have them.
 -- Assumes nothing.
+use Rattle.std.specs.Prelude.{Err, Ok}
 use mathlib.Core.Path.{◌≡◌, refl, sym, ap, subst, ◌∙◌}
 use mathlib.Core.Logic.{⊎_elim}
 use mathlib.Core.Bool.{true, false}
@@ -12,9 +13,7 @@ use lib.ListN.{length, take, drop, length-take}
 use Rattle.laws.specs.Text.{text, same}
 use Rattle.laws.proofs.Bools.{clash}
 use Rattle.laws.proofs.Order.{eq_or_ne}
-use Rattle.numbers.specs.Reading.{read_number}
-use Rattle.numbers.specs.declared.NumberRead.{NumberRead}
-use Rattle.numbers.specs.declared.NumberRead.TheVariants as Number
+use Rattle.numbers.specs.Reading.{read_number, NumberRead}
 use Rattle.numbers.proofs.Places.{number_refused}
 use Rattle.words.specs.Cutting.{Placed, placed, words_at, start_of, word_at}
 use Rattle.words.specs.Find.{meaning_of}
@@ -24,18 +23,15 @@ use Rattle.command.specs.declared.AxisCommand.TheVariants.{Nothing, Warnings, Wa
 use Rattle.command.specs.declared.DeviceCommand.TheVariants.{Help}
 use Rattle.command.specs.declared.Command.{Command}
 use Rattle.command.specs.declared.Command.TheVariants.{OfAxes, OfDevice}
-use Rattle.phrase.specs.declared.SettingRead.{SettingRead}
+use Rattle.phrase.specs.Reading.{SettingRead, unknown, misspelt, ended, made, one_number, moves, read_move, read_setting, get_of, read_get, set_of, read_set, store_at, read_storepos, parkings, read_parking, tools, read_tools, read_warnings, read_help, firsts, read_command, WordsRead, worded}
 use Rattle.phrase.specs.declared.Numbered.{Numbered}
 use Rattle.phrase.specs.declared.Numbered.TheVariants as With
-use Rattle.phrase.specs.declared.WordsRead.{WordsRead}
-use Rattle.phrase.specs.declared.WordsRead.TheVariants as Words
-use Rattle.phrase.specs.Reading.{unknown, misspelt, ended, made, one_number, moves, read_move, read_setting, get_of, read_get, set_of, read_set, store_at, read_storepos, parkings, read_parking, tools, read_tools, read_warnings, read_help, firsts, read_command}
 use Rattle.phrase.specs.Place.{Places}
 use Rattle.phrase.proofs.Rows.{setting_none}
 
 -- no word is left from `at` on, or some word is: a is where `start_of` finds that it may start
 module _ (s : List ℕ) (at : ℕ) {a : ℕ} (q : a ≡ start_of s at) (c : Command) where
-  pub ended_yes : length s ≤ a → Words.Command c 0 ≡ ended c (words_at s at)
+  pub ended_yes : length s ≤ a → Ok (worded c 0) ≡ ended c (words_at s at)
   unfolding ended
   ended_yes l = rw (words_none s at q l)
 
@@ -98,11 +94,11 @@ module _ (s : List ℕ) (at : ℕ) {w : Word} (is : w ≡ word_at s at) where
 
   -- there is none: `warnings` alone; no word at all; a number that is missing
   module _ (e : w.start ≡ w.end) where
-    pub warnings_alone : Words.Command (OfAxes Warnings) 0 ≡ read_warnings words
+    pub warnings_alone : Ok (worded (OfAxes Warnings) 0) ≡ read_warnings words
     unfolding read_warnings
     warnings_alone = rw (words_empty s at is e)
 
-    pub command_none : Words.Command (OfAxes Nothing) 0 ≡ read_command words
+    pub command_none : Ok (worded (OfAxes Nothing) 0) ≡ read_command words
     unfolding read_command
     command_none = rw (words_empty s at is e)
 
@@ -171,8 +167,8 @@ module _ (s : List ℕ) (at : ℕ) {w : Word} (is : w ≡ word_at s at) where
   number_places size {n} e = go n e
     where
       go : (n : NumberRead) → n ≡ read_number first → Places w.start n
-      go (Number.Value m) q = tt
-      go (Number.Refused p) q =
+      go (Ok m) q = tt
+      go (Err p) q =
           let inside = ((number_refused first p).0 (sym q)).1.inside in
           let long = length-take (w.end - w.start) (drop w.start s) in
           record { fits = omega (arith, inside, long, word_whole s at is, word_within s at is, size.fits) }

@@ -1,5 +1,6 @@
 -- Where a place is told with 11, a number's word of the command refuses there; where none is told, the words fit no row but for numbers.
 -- Assumes nothing.
+use Rattle.std.specs.Prelude.{Err, Ok}
 use mathlib.Core.Path.{◌≡◌, refl}
 use mathlib.Core.Logic.{◌⊎◌, inl, inr, ⊎_elim}
 use mathlib.Core.Bool.{Bool, true, false, cond, not, ◌&&◌, ◌||◌}
@@ -13,9 +14,7 @@ use Rattle.laws.proofs.Bools.{and_left, and_right, clash}
 use Rattle.laws.proofs.Each.{OneOf, first, later}
 use Rattle.laws.proofs.Order.{lt_or_le}
 use Rattle.numbers.specs.Place.{ANumber, Begins, LongestFront}
-use Rattle.numbers.specs.Reading.{read_number}
-use Rattle.numbers.specs.declared.NumberRead.{NumberRead}
-use Rattle.numbers.specs.declared.NumberRead.TheVariants as Number
+use Rattle.numbers.specs.Reading.{read_number, NumberRead}
 use Rattle.numbers.proofs.Places.{number_refused}
 use Rattle.words.specs.Cutting.{Placed, bytes_of}
 use Rattle.command.specs.Commands.{Place, word, SETTING, WRITABLE, N, P, Row, table, any_words}
@@ -90,8 +89,8 @@ row_wrong (p ∷ ps) (w ∷ ws) e =
     by : (r : NumberRead) → read_number w.bytes ≡ r → stands p w.bytes ≡ is_number r → RowTold ps ws (first_refused ps ws)
         → ((stands p w.bytes && just_so ps (bytes_of ws) ≡ true) × (or_else w.start r (first_refused ps ws) ≡ NOWHERE))
         ⊎ WrongAt ANumber (w ∷ ws) (or_else w.start r (first_refused ps ws))
-    by (Number.Value n) q s told = right s told
-    by (Number.Refused k) q s told = let x = (number_refused w.bytes k).0 q in inr (wrong_there first x.0 x.1)
+    by (Ok n) q s told = right s told
+    by (Err k) q s told = let x = (number_refused w.bytes k).0 q in inr (wrong_there first x.0 x.1)
 
     go : (b : Bool) → number_due p w.bytes ≡ b → (b || stands p w.bytes) ≡ true → RowTold ps ws (first_refused ps ws)
         → ((stands p w.bytes && just_so ps (bytes_of ws) ≡ true)

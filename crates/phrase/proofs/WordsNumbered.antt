@@ -1,51 +1,48 @@
 -- Words that are refused are refused with 10 or 11 and with no other number, so never with 0, which means accepted; and 10 has no
 -- place. Assumes nothing.
+use Rattle.std.specs.Prelude.{Err, None, Ok, Some}
 use mathlib.Core.Bool.{Bool, true, false, cond}
 use mathlib.Core.List.{List, [], ◌∷◌}
 use Prim.Native.Nat.{ℕ}
-use Rattle.laws.specs.Refusals.{BADCOMMAND, BADDATA, NOWHERE}
+use Rattle.laws.specs.declared.Refusal.{Refusal}
+use Rattle.laws.specs.declared.Refusal.TheVariants.{BadCommand, BadData}
+use Rattle.laws.specs.Refusals.{Verdict, NOWHERE, refusal_at}
 use Rattle.laws.specs.Text.{text, same}
 use Rattle.laws.proofs.Each.{Each, none, more}
-use Rattle.numbers.specs.Reading.{read_number}
-use Rattle.numbers.specs.declared.NumberRead.{NumberRead}
-use Rattle.numbers.specs.declared.NumberRead.TheVariants as Number
+use Rattle.numbers.specs.Reading.{read_number, NumberRead}
 use Rattle.words.specs.Cutting.{Placed}
 use Rattle.words.specs.Find.{Entry, meaning_of}
 use Rattle.command.specs.declared.Command.{Command}
 use Rattle.command.specs.Settings.{read_only}
 use Rattle.phrase.specs.declared.Numbered.{Numbered}
 use Rattle.phrase.specs.declared.Numbered.TheVariants as With
-use Rattle.phrase.specs.declared.SettingRead.{SettingRead}
-use Rattle.phrase.specs.declared.SettingRead.TheVariants.{Is, Unknown}
-use Rattle.phrase.specs.declared.WordsRead.{WordsRead}
-use Rattle.phrase.specs.declared.WordsRead.TheVariants as Words
-use Rattle.phrase.specs.Reading.{ended, made, one_number, read_move, read_setting, get_of, read_get, set_of, read_set, store_at, read_storepos, read_parking, read_tools, read_warnings, read_help, read_command}
+use Rattle.phrase.specs.Reading.{SettingRead, ended, made, one_number, read_move, read_setting, get_of, read_get, set_of, read_set, store_at, read_storepos, read_parking, read_tools, read_warnings, read_help, read_command, WordsRead}
 use Rattle.phrase.proofs.Among.{◌also◌}
 
 -- the numbers that words are refused with; and the places of each
-pub data Misspelt : ℕ → Type 0 where
-  bad_command_lem : Misspelt BADCOMMAND
-  bad_data_lem : Misspelt BADDATA
+pub data Misspelt : Verdict → Type 0 where
+  bad_command_lem : Misspelt (Err BadCommand)
+  bad_data_lem : Misspelt (Err BadData)
 
-pub data MisspeltAt : ℕ → ℕ → Type 0 where
-  no_place : MisspeltAt BADCOMMAND NOWHERE
-  a_place : {p : ℕ} → MisspeltAt BADDATA p
+pub data MisspeltAt : Refusal → ℕ → Type 0 where
+  no_place : MisspeltAt BadCommand NOWHERE
+  a_place : {p : ℕ} → MisspeltAt BadData p
 
-pub misspelt_at : {n p : ℕ} → MisspeltAt n p → Misspelt n
+pub misspelt_at : {n : Refusal} {p : ℕ} → MisspeltAt n p → Misspelt (Err n)
 misspelt_at no_place = bad_command_lem
 misspelt_at a_place = bad_data_lem
 
 abbrev pub NumberedWords : WordsRead → Type 0
-NumberedWords (Words.Command c p) = Unit
-NumberedWords (Words.Refused n p) = MisspeltAt n p
+NumberedWords (Ok x) = Unit
+NumberedWords (Err e) = MisspeltAt e.refusal e.place
 
 either : {X : Type 0} (P : X → Type 0) (t : Bool) {x y : X} → P x → P y → P (cond t x y)
 either P true p q = p
 either P false p q = q
 
-meaning : {n : ℕ} (w : List ℕ) {es : List (Entry WordsRead)} → MisspeltAt n NOWHERE
+meaning : {n : Refusal} (w : List ℕ) {es : List (Entry WordsRead)} → MisspeltAt n NOWHERE
     → Each (λ (e : Entry WordsRead). NumberedWords e.meaning) es
-    → NumberedWords (meaning_of (Words.Refused n NOWHERE) w es)
+    → NumberedWords (meaning_of (Err (refusal_at n NOWHERE)) w es)
 unfolding meaning_of
 meaning w h none = h
 meaning w h (more {x = e} p ps) = either NumberedWords (same w e.word) p (meaning w h ps)
@@ -56,8 +53,8 @@ end c [] = tt
 end c (w ∷ ws) = a_place
 
 make : (k : Numbered) (i : ℕ) (r : NumberRead) → NumberedWords (made k i r)
-make k i (Number.Value n) = tt
-make k i (Number.Refused p) = a_place
+make k i (Ok n) = tt
+make k i (Err p) = a_place
 
 one : (k : Numbered) (ws : List Placed) → NumberedWords (one_number k ws)
 unfolding one_number
@@ -71,8 +68,8 @@ move_numbered [] = no_place
 move_numbered (w ∷ ws) = meaning w.bytes no_place (one _ _ also one _ _ also one _ _ also end _ _ also end _ _ also one _ _ also none)
 
 get_of_numbered : (s : SettingRead) (ws : List Placed) → NumberedWords (get_of s ws)
-get_of_numbered Unknown ws = no_place
-get_of_numbered (Is s) ws = end _ ws
+get_of_numbered None ws = no_place
+get_of_numbered (Some s) ws = end _ ws
 
 get_numbered : (ws : List Placed) → NumberedWords (read_get ws)
 unfolding read_get
@@ -80,8 +77,8 @@ get_numbered [] = no_place
 get_numbered (w ∷ ws) = get_of_numbered (read_setting w.bytes) ws
 
 set_of_numbered : (s : SettingRead) (ws : List Placed) → NumberedWords (set_of s ws)
-set_of_numbered Unknown ws = no_place
-set_of_numbered (Is s) ws = either NumberedWords (read_only s) no_place (one (With.SetTo s) ws)
+set_of_numbered None ws = no_place
+set_of_numbered (Some s) ws = either NumberedWords (read_only s) no_place (one (With.SetTo s) ws)
 
 set_numbered : (ws : List Placed) → NumberedWords (read_set ws)
 unfolding read_set
@@ -89,8 +86,8 @@ set_numbered [] = no_place
 set_numbered (w ∷ ws) = set_of_numbered (read_setting w.bytes) ws
 
 store_numbered : (i : ℕ) (r : NumberRead) (v : Placed) → NumberedWords (store_at i r v)
-store_numbered i (Number.Refused p) v = a_place
-store_numbered i (Number.Value n) v = make (With.StoreAt n) v.start (read_number v.bytes)
+store_numbered i (Err p) v = a_place
+store_numbered i (Ok n) v = make (With.StoreAt n) v.start (read_number v.bytes)
 
 storepos_numbered : (ws : List Placed) → NumberedWords (read_storepos ws)
 unfolding read_storepos

@@ -1,18 +1,15 @@
 -- Order 3 of document 02: where a command's words went wrong, held against document 01's table alone, as specs/Refusals.antt is.
 -- Nothing here says in what order words are looked at. proofs/Refused.antt shows that the reading agrees.
-use Rattle.std.specs.Prelude.{Bool, true, false, cond, not, ◌&&◌, ◌||◌, List, [], ◌∷◌, ◌++◌, ℕ, ◌+◌}
+use Rattle.std.specs.Prelude.{Bool, true, false, cond, not, ◌&&◌, ◌||◌, List, [], ◌∷◌, ◌++◌, ℕ, ◌+◌, Err, Ok}
 use Rattle.std.specs.Int.{w64}
 use Rattle.std.proofs.Common.{Fits}
 use Rattle.laws.specs.Text.{text, same}
 use Rattle.laws.specs.Refusals.{NOWHERE, in_byte}
-use Rattle.numbers.specs.Reading.{read_number}
-use Rattle.numbers.specs.declared.NumberRead.{NumberRead}
-use Rattle.numbers.specs.declared.NumberRead.TheVariants as Number
+use Rattle.numbers.specs.Reading.{read_number, NumberRead}
 use Rattle.words.specs.Cutting.{Placed}
 use Rattle.command.specs.Commands.{Place, word, SETTING, WRITABLE, N, P, Row, table}
 use Rattle.phrase.specs.Refusals.{stands}
-use Rattle.phrase.specs.declared.WordsRead.{WordsRead}
-use Rattle.phrase.specs.declared.WordsRead.TheVariants as Words
+use Rattle.phrase.specs.Reading.{WordsRead}
 
 -- whether the word at a place of a row is to be a number: "in P's place all but `current` is one"
 abbrev pub number_due : Place → List ℕ → Bool
@@ -31,8 +28,8 @@ other_words_fit (p ∷ ps) (w ∷ ws) = (number_due p w.bytes || stands p w.byte
 
 -- "the first of them": the place where the first number of a row refuses, in the line; its word starts at i
 abbrev pub or_else : ℕ → NumberRead → ℕ → ℕ
-or_else i (Number.Refused p) next = in_byte (i + p)
-or_else i (Number.Value n) next = next
+or_else i (Err p) next = in_byte (i + p)
+or_else i (Ok n) next = next
 
 unfoldable pub first_refused : List Place → List Placed → ℕ
 first_refused [] ws = NOWHERE
@@ -55,10 +52,10 @@ words_place ws = place_among table ws
 
 -- the place that was read
 abbrev pub place_told : WordsRead → ℕ
-place_told (Words.Command c from) = NOWHERE
-place_told (Words.Refused n p) = p
+place_told (Ok x) = NOWHERE
+place_told (Err e) = e.place
 
 -- for the code that adds up a refused number's place in the line, where its word starts at i: it is a number of 64 bits
 abbrev pub Places : ℕ → NumberRead → Type 0
-Places i (Number.Value n) = Unit
-Places i (Number.Refused p) = Fits w64 (i + p)
+Places i (Ok n) = Unit
+Places i (Err p) = Fits w64 (i + p)

@@ -1,32 +1,27 @@
 -- When a command's words are refused, held against document 01's table alone: which rows begin so, and which row they fit.
 -- Nothing here says in what order words are looked at. proofs/Refused.antt shows that the reading agrees.
-use Rattle.std.specs.Prelude.{Bool, true, false, not, ◌&&◌, ◌||◌, List, [], ◌∷◌, ℕ, length, drop}
+use Rattle.std.specs.Prelude.{Bool, true, false, not, ◌&&◌, ◌||◌, List, [], ◌∷◌, ℕ, length, drop, Err, None, Ok, Some}
 use Rattle.laws.specs.Lists.{any}
 use Rattle.laws.specs.Text.{same}
-use Rattle.laws.specs.Refusals.{◌when◌, first_of, BADCOMMAND, BADDATA}
-use Rattle.numbers.specs.Reading.{read_number}
-use Rattle.numbers.specs.declared.NumberRead.{NumberRead}
-use Rattle.numbers.specs.declared.NumberRead.TheVariants as Number
+use Rattle.laws.specs.declared.Refusal.TheVariants.{BadCommand, BadData}
+use Rattle.laws.specs.Refusals.{Verdict, ACCEPTED, ◌when◌, first_of}
+use Rattle.numbers.specs.Reading.{read_number, NumberRead}
 use Rattle.command.specs.Settings.{read_only}
 use Rattle.command.specs.Commands.{Place, word, SETTING, WRITABLE, N, P, Row, table, any_words}
-use Rattle.phrase.specs.Reading.{read_setting}
-use Rattle.phrase.specs.declared.SettingRead.{SettingRead}
-use Rattle.phrase.specs.declared.SettingRead.TheVariants.{Is, Unknown}
-use Rattle.phrase.specs.declared.WordsRead.{WordsRead}
-use Rattle.phrase.specs.declared.WordsRead.TheVariants as Words
+use Rattle.phrase.specs.Reading.{read_setting, SettingRead, WordsRead}
 
 -- what may stand at a place of a row
 abbrev pub is_setting : SettingRead → Bool
-is_setting (Is s) = true
-is_setting Unknown = false
+is_setting (Some s) = true
+is_setting None = false
 
 abbrev pub is_writable : SettingRead → Bool
-is_writable (Is s) = not (read_only s)
-is_writable Unknown = false
+is_writable (Some s) = not (read_only s)
+is_writable None = false
 
 abbrev pub is_number : NumberRead → Bool
-is_number (Number.Value n) = true
-is_number (Number.Refused p) = false
+is_number (Ok n) = true
+is_number (Err p) = false
 
 abbrev pub stands : Place → List ℕ → Bool
 stands (word v) w = same w v
@@ -66,10 +61,10 @@ bad_data [] = false
 bad_data (v ∷ ws) = not (any (fits (v ∷ ws)) table)
 
 -- document 01's number for what words are read as: "Accepted is 0"
-abbrev pub words_number : WordsRead → ℕ
-words_number (Words.Command c p) = 0
-words_number (Words.Refused n p) = n
+abbrev pub words_number : WordsRead → Verdict
+words_number (Ok x) = ACCEPTED
+words_number (Err e) = Err e.refusal
 
 -- "Checks run in the table's order and the first that applies wins."
-unfoldable pub words_refusal : List (List ℕ) → ℕ
-words_refusal ws = first_of (BADCOMMAND when bad_command ws ∷ BADDATA when bad_data ws ∷ [])
+unfoldable pub words_refusal : List (List ℕ) → Verdict
+words_refusal ws = first_of (BadCommand when bad_command ws ∷ BadData when bad_data ws ∷ [])

@@ -9,35 +9,35 @@ ghost use Rattle.phrase.specs.Reading.{numbered as numberedBy, made};
 ghost use Rattle.phrase.specs.Place.{Places, place_told};
 
 use command::{AxisCommand, Command, DeviceCommand, Setting, Target};
-use laws::{BADDATA, NOWHERE};
-use numbers::NumberRead;
+use laws::{NOWHERE, Refusal, RefusedAt};
 use units::{Number, Position, Speed};
 
-// What a command's words come to: the command, and the place where the words that it carries begin, 0 where it carries none;
-// or the number of the refusal and its place in the line.
+// What a command's words come to: the command, and the place where the words that it carries begin, 0 where it carries none.
 #[derive(Clone, Copy)]
-pub enum WordsRead {
-    Command(Command, usize),
-    Refused(u8, u8),
+pub struct Worded {
+    pub command: Command,
+    pub from: usize,
 }
 
-impl WordsRead {
-    // The place that is told with a refusal; 255 where there is none.
-    pub fn place(self) -> u8
-        ensures { result ≡ place_told self }
-    {
-        match self {
-            WordsRead::Command(_, _) => NOWHERE,
-            WordsRead::Refused(_, p) => p,
-        }
+// The refusals of a command's words that have no place in the line.
+pub(crate) const UNKNOWN: RefusedAt = RefusedAt {
+    refusal: Refusal::BadCommand,
+    place: NOWHERE,
+};
+
+pub(crate) const MISSPELT: RefusedAt = RefusedAt {
+    refusal: Refusal::BadData,
+    place: NOWHERE,
+};
+
+// The place that is told with a refusal of words; 255 where there is none.
+pub fn place_told(read: Result<Worded, RefusedAt>) -> u8
+    ensures { result ≡ place_told read }
+{
+    match read {
+        Ok(_) => NOWHERE,
+        Err(e) => e.place,
     }
-}
-
-// The setting that a word names.
-#[derive(Clone, Copy)]
-pub enum SettingRead {
-    Is(Setting),
-    Unknown,
 }
 
 // A row of the table that waits for its last number.
@@ -81,13 +81,16 @@ impl Numbered {
     }
 
     // The row with its number, whose word starts at a place; or 11 where it is none, and where it refuses.
-    pub(crate) fn made(self, start: usize, n: NumberRead) -> WordsRead
+    pub(crate) fn made(self, start: usize, n: Result<Number, usize>) -> Result<Worded, RefusedAt>
         requires { Places start n }
         ensures { result ≡ made self start n }
     {
         match n {
-            NumberRead::Value(v) => WordsRead::Command(self.with(v), 0),
-            NumberRead::Refused(p) => WordsRead::Refused(BADDATA, ((start + p) % 256) as u8),
+            Ok(v) => Ok(Worded {
+                command: self.with(v),
+                from: 0,
+            }),
+            Err(p) => Err(Refusal::BadData.at(start + p)),
         }
     }
 }

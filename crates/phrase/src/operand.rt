@@ -3,97 +3,99 @@
 ghost use Rattle.std.specs.Prelude.{◌≡◌};
 ghost use Rattle.words.specs.Cutting.{words_at};
 ghost use Rattle.words.specs.Find.{meaning_of};
-ghost use Rattle.phrase.specs.declared.SettingRead.TheVariants.{Unknown};
 ghost use Rattle.phrase.specs.Reading.{ended, one_number, device_names, read_setting};
 
-use crate::{Numbered, SettingRead, WordsRead};
+use crate::{MISSPELT, Numbered, Worded};
 use command::{AxisSetting, Command, DeviceSetting, Setting};
-use laws::{BADDATA, NOWHERE};
+use laws::RefusedAt;
 use words::{Word, same_bytes};
 
 // The command c, where no word is left.
-pub(crate) fn ended_at(s: &[u8], at: usize, c: Command) -> WordsRead
+pub(crate) fn ended_at(s: &[u8], at: usize, c: Command) -> Result<Worded, RefusedAt>
     ensures { result ≡ ended c (words_at s.now at) }
 {
     if words::start_of(s, at) < s.len() {
-        WordsRead::Refused(BADDATA, NOWHERE)
+        Err(MISSPELT)
     } else {
-        WordsRead::Command(c, 0)
+        Ok(Worded {
+            command: c,
+            from: 0,
+        })
     }
 }
 
 // The row k, where one word is left and is its number.
-pub(crate) fn one_number(s: &[u8], at: usize, k: Numbered) -> WordsRead
+pub(crate) fn one_number(s: &[u8], at: usize, k: Numbered) -> Result<Worded, RefusedAt>
     ensures { result ≡ one_number k (words_at s.now at) }
 {
     let Word { start, end } = words::word_at(s, at);
     if start == end {
-        return WordsRead::Refused(BADDATA, NOWHERE);
+        return Err(MISSPELT);
     }
     if words::start_of(s, end) < s.len() {
-        return WordsRead::Refused(BADDATA, NOWHERE);
+        return Err(MISSPELT);
     }
     k.made(start, numbers::reading::read_number(&s[start..end]))
 }
 
 // The setting of the device that a word names.
-fn read_device_setting(w: &[u8]) -> SettingRead
-    ensures { result ≡ meaning_of Unknown w.now device_names }
+fn read_device_setting(w: &[u8]) -> Option<Setting>
+    ensures { result ≡ meaning_of None w.now device_names }
 {
     if same_bytes(w, b"comm.address") {
-        return SettingRead::Is(Setting::OfDevice(DeviceSetting::CommAddress));
+        return Some(Setting::OfDevice(DeviceSetting::CommAddress));
     }
     if same_bytes(w, b"comm.alert") {
-        return SettingRead::Is(Setting::OfDevice(DeviceSetting::CommAlert));
+        return Some(Setting::OfDevice(DeviceSetting::CommAlert));
     }
     if same_bytes(w, b"comm.checksum") {
-        return SettingRead::Is(Setting::OfDevice(DeviceSetting::CommChecksum));
+        return Some(Setting::OfDevice(DeviceSetting::CommChecksum));
     }
     if same_bytes(w, b"system.access") {
-        return SettingRead::Is(Setting::OfDevice(DeviceSetting::SystemAccess));
+        return Some(Setting::OfDevice(DeviceSetting::SystemAccess));
     }
     if same_bytes(w, b"deviceid") {
-        return SettingRead::Is(Setting::OfDevice(DeviceSetting::DeviceId));
+        return Some(Setting::OfDevice(DeviceSetting::DeviceId));
     }
     if same_bytes(w, b"system.axiscount") {
-        return SettingRead::Is(Setting::OfDevice(DeviceSetting::SystemAxisCount));
+        return Some(Setting::OfDevice(DeviceSetting::SystemAxisCount));
     }
-    SettingRead::Unknown
+    None
 }
 
 // The setting that a word names.
-pub(crate) fn read_setting(w: &[u8]) -> SettingRead
+pub(crate) fn read_setting(w: &[u8]) -> Option<Setting>
     ensures { result ≡ read_setting w.now }
 {
     if same_bytes(w, b"pos") {
-        return SettingRead::Is(Setting::OfAxis(AxisSetting::Pos));
+        return Some(Setting::OfAxis(AxisSetting::Pos));
     }
     if same_bytes(w, b"limit.min") {
-        return SettingRead::Is(Setting::OfAxis(AxisSetting::LimitMin));
+        return Some(Setting::OfAxis(AxisSetting::LimitMin));
     }
     if same_bytes(w, b"limit.max") {
-        return SettingRead::Is(Setting::OfAxis(AxisSetting::LimitMax));
+        return Some(Setting::OfAxis(AxisSetting::LimitMax));
     }
     if same_bytes(w, b"maxspeed") {
-        return SettingRead::Is(Setting::OfAxis(AxisSetting::MaxSpeed));
+        return Some(Setting::OfAxis(AxisSetting::MaxSpeed));
     }
     if same_bytes(w, b"accel") {
-        return SettingRead::Is(Setting::OfAxis(AxisSetting::Accel));
+        return Some(Setting::OfAxis(AxisSetting::Accel));
     }
     if same_bytes(w, b"driver.current.max") {
-        return SettingRead::Is(Setting::OfAxis(AxisSetting::DriverCurrentMax));
+        return Some(Setting::OfAxis(AxisSetting::DriverCurrentMax));
     }
     if same_bytes(w, b"driver.current.run") {
-        return SettingRead::Is(Setting::OfAxis(AxisSetting::DriverCurrentRun));
+        return Some(Setting::OfAxis(AxisSetting::DriverCurrentRun));
     }
     if same_bytes(w, b"driver.current.hold") {
-        return SettingRead::Is(Setting::OfAxis(AxisSetting::DriverCurrentHold));
+        return Some(Setting::OfAxis(AxisSetting::DriverCurrentHold));
     }
     if same_bytes(w, b"driver.dir") {
-        return SettingRead::Is(Setting::OfAxis(AxisSetting::DriverDir));
+        return Some(Setting::OfAxis(AxisSetting::DriverDir));
     }
     if same_bytes(w, b"encoder.index.count") {
-        return SettingRead::Is(Setting::OfAxis(AxisSetting::EncoderIndexCount));
+        return Some(Setting::OfAxis(AxisSetting::EncoderIndexCount));
     }
     read_device_setting(w)
 }

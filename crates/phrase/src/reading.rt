@@ -7,39 +7,42 @@ ghost use Rattle.phrase.specs.Reading.{unknown, read_warnings, read_help, firsts
 ghost use Rattle.phrase.specs.Refusals.{words_number, words_refusal};
 ghost use Rattle.phrase.specs.Place.{place_told, words_place};
 
-use crate::WordsRead;
 use crate::operand::ended_at;
+use crate::{MISSPELT, UNKNOWN, Worded};
 use command::{AxisCommand, Command, DeviceCommand};
-use laws::{BADCOMMAND, BADDATA, NOWHERE};
+use laws::RefusedAt;
 use words::{Word, same_bytes};
 
 // The words behind `warnings`.
-fn read_warnings(s: &[u8], at: usize) -> WordsRead
+fn read_warnings(s: &[u8], at: usize) -> Result<Worded, RefusedAt>
     ensures { result ≡ read_warnings (words_at s.now at) }
 {
     let Word { start, end } = words::word_at(s, at);
     if start == end {
-        return WordsRead::Command(Command::OfAxes(AxisCommand::Warnings), 0);
+        return Ok(Worded {
+            command: Command::OfAxes(AxisCommand::Warnings),
+            from: 0,
+        });
     }
     if same_bytes(&s[start..end], b"clear") {
         return ended_at(s, end, Command::OfAxes(AxisCommand::WarningsClear));
     }
-    WordsRead::Refused(BADDATA, NOWHERE)
+    Err(MISSPELT)
 }
 
 // The words behind `help`.
-fn read_help(s: &[u8], at: usize) -> WordsRead
+fn read_help(s: &[u8], at: usize) -> Result<Worded, RefusedAt>
     ensures { result ≡ read_help (words_at s.now at) }
 {
     let Word { start, end } = words::word_at(s, at);
     if same_bytes(&s[start..end], b"commands") {
         return ended_at(s, end, Command::OfDevice(DeviceCommand::Help));
     }
-    WordsRead::Refused(BADDATA, NOWHERE)
+    Err(MISSPELT)
 }
 
 // Behind the first word w.
-fn first_of(s: &[u8], at: usize, w: &[u8]) -> WordsRead
+fn first_of(s: &[u8], at: usize, w: &[u8]) -> Result<Worded, RefusedAt>
     ensures { result ≡ meaning_of unknown w.now (firsts (words_at s.now at)) }
 {
     if same_bytes(w, b"home") {
@@ -69,18 +72,21 @@ fn first_of(s: &[u8], at: usize, w: &[u8]) -> WordsRead
     if same_bytes(w, b"help") {
         return read_help(s, at);
     }
-    WordsRead::Refused(BADCOMMAND, NOWHERE)
+    Err(UNKNOWN)
 }
 
 // The words of a command, from a place on; an echo's words stand behind the first two.
-pub fn read_command(s: &[u8], at: usize) -> WordsRead
+pub fn read_command(s: &[u8], at: usize) -> Result<Worded, RefusedAt>
     ensures read { result ≡ read_command (words_at s.now at) }
     ensures number { words_number result ≡ words_refusal (bytes_of (words_at s.now at)) }
     ensures place { place_told result ≡ words_place (words_at s.now at) }
 {
     let Word { start, end } = words::word_at(s, at);
     if start == end {
-        return WordsRead::Command(Command::OfAxes(AxisCommand::Nothing), 0);
+        return Ok(Worded {
+            command: Command::OfAxes(AxisCommand::Nothing),
+            from: 0,
+        });
     }
     first_of(s, end, &s[start..end])
 }

@@ -8,30 +8,35 @@ ghost use Rattle.phrase.specs.Place.{Places};
 ghost use Rattle.phrase.specs.Reading.{unknown, misspelt, store_at, read_storepos, parkings, read_parking, tools, read_tools};
 
 use crate::operand::ended_at;
-use crate::{Numbered, WordsRead};
+use crate::{MISSPELT, Numbered, UNKNOWN, Worded};
 use command::{Command, DeviceCommand};
-use laws::{BADCOMMAND, BADDATA, NOWHERE};
-use numbers::NumberRead;
+use laws::{Refusal, RefusedAt};
+use units::Number;
 use words::{Word, same_bytes};
 
 // `tools storepos` with its number n and a position; both words by where they start.
-fn store_at(start: usize, n: NumberRead, from: usize, v: &[u8]) -> WordsRead
+fn store_at(
+    start: usize,
+    n: Result<Number, usize>,
+    from: usize,
+    v: &[u8],
+) -> Result<Worded, RefusedAt>
     requires { Places start n × Places from (number_in v.now) }
     ensures { result ≡ store_at start n (placed from v.now) }
 {
     match n {
-        NumberRead::Refused(p) => WordsRead::Refused(BADDATA, ((start + p) % 256) as u8),
-        NumberRead::Value(m) => Numbered::StoreAt(m).made(from, numbers::reading::read_number(v)),
+        Err(p) => Err(Refusal::BadData.at(start + p)),
+        Ok(m) => Numbered::StoreAt(m).made(from, numbers::reading::read_number(v)),
     }
 }
 
 // The words behind `tools storepos`: N, or N P, or N current.
-fn read_storepos(s: &[u8], at: usize) -> WordsRead
+fn read_storepos(s: &[u8], at: usize) -> Result<Worded, RefusedAt>
     ensures { result ≡ read_storepos (words_at s.now at) }
 {
     let Word { start, end } = words::word_at(s, at);
     if start == end {
-        return WordsRead::Refused(BADDATA, NOWHERE);
+        return Err(MISSPELT);
     }
     let n = numbers::reading::read_number(&s[start..end]);
     let Word {
@@ -42,7 +47,7 @@ fn read_storepos(s: &[u8], at: usize) -> WordsRead
         return Numbered::Store.made(start, n);
     }
     if words::start_of(s, to) < s.len() {
-        return WordsRead::Refused(BADDATA, NOWHERE);
+        return Err(MISSPELT);
     }
     let v = &s[from..to];
     if same_bytes(v, b"current") {
@@ -52,7 +57,7 @@ fn read_storepos(s: &[u8], at: usize) -> WordsRead
 }
 
 // Behind `tools parking` and the word w.
-fn parking_of(s: &[u8], at: usize, w: &[u8]) -> WordsRead
+fn parking_of(s: &[u8], at: usize, w: &[u8]) -> Result<Worded, RefusedAt>
     ensures { result ≡ meaning_of misspelt w.now (parkings (words_at s.now at)) }
 {
     if same_bytes(w, b"state") {
@@ -64,11 +69,11 @@ fn parking_of(s: &[u8], at: usize, w: &[u8]) -> WordsRead
     if same_bytes(w, b"unpark") {
         return ended_at(s, at, Command::OfDevice(DeviceCommand::Unpark));
     }
-    WordsRead::Refused(BADDATA, NOWHERE)
+    Err(MISSPELT)
 }
 
 // The words behind `tools parking`.
-fn read_parking(s: &[u8], at: usize) -> WordsRead
+fn read_parking(s: &[u8], at: usize) -> Result<Worded, RefusedAt>
     ensures { result ≡ read_parking (words_at s.now at) }
 {
     let Word { start, end } = words::word_at(s, at);
@@ -76,7 +81,7 @@ fn read_parking(s: &[u8], at: usize) -> WordsRead
 }
 
 // Behind `tools` and the word w.
-fn tool_of(s: &[u8], at: usize, w: &[u8]) -> WordsRead
+fn tool_of(s: &[u8], at: usize, w: &[u8]) -> Result<Worded, RefusedAt>
     ensures { result ≡ meaning_of unknown w.now (tools at (words_at s.now at)) }
 {
     if same_bytes(w, b"storepos") {
@@ -86,13 +91,16 @@ fn tool_of(s: &[u8], at: usize, w: &[u8]) -> WordsRead
         return read_parking(s, at);
     }
     if same_bytes(w, b"echo") {
-        return WordsRead::Command(Command::OfDevice(DeviceCommand::Echo), at);
+        return Ok(Worded {
+            command: Command::OfDevice(DeviceCommand::Echo),
+            from: at,
+        });
     }
-    WordsRead::Refused(BADCOMMAND, NOWHERE)
+    Err(UNKNOWN)
 }
 
 // The words behind `tools`.
-pub(crate) fn read_tools(s: &[u8], at: usize) -> WordsRead
+pub(crate) fn read_tools(s: &[u8], at: usize) -> Result<Worded, RefusedAt>
     ensures { result ≡ read_tools (words_at s.now at) }
 {
     let Word { start, end } = words::word_at(s, at);

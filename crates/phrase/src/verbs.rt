@@ -7,13 +7,13 @@ ghost use Rattle.command.specs.Commands.{get_command};
 ghost use Rattle.phrase.specs.Reading.{unknown, moves, read_move, get_of, read_get, set_of, read_set};
 
 use crate::operand::{ended_at, one_number, read_setting};
-use crate::{Numbered, SettingRead, WordsRead};
+use crate::{Numbered, UNKNOWN, Worded};
 use command::{AxisCommand, Command, DeviceCommand, Setting, Target};
-use laws::{BADCOMMAND, NOWHERE};
+use laws::RefusedAt;
 use words::{Word, same_bytes};
 
 // Behind `move` and the word w.
-fn move_of(s: &[u8], at: usize, w: &[u8]) -> WordsRead
+fn move_of(s: &[u8], at: usize, w: &[u8]) -> Result<Worded, RefusedAt>
     ensures { result ≡ meaning_of unknown w.now (moves (words_at s.now at)) }
 {
     if same_bytes(w, b"abs") {
@@ -34,11 +34,11 @@ fn move_of(s: &[u8], at: usize, w: &[u8]) -> WordsRead
     if same_bytes(w, b"stored") {
         return one_number(s, at, Numbered::MoveStored);
     }
-    WordsRead::Refused(BADCOMMAND, NOWHERE)
+    Err(UNKNOWN)
 }
 
 // The words behind `move`.
-pub(crate) fn read_move(s: &[u8], at: usize) -> WordsRead
+pub(crate) fn read_move(s: &[u8], at: usize) -> Result<Worded, RefusedAt>
     ensures { result ≡ read_move (words_at s.now at) }
 {
     let Word { start, end } = words::word_at(s, at);
@@ -56,17 +56,17 @@ fn get_command(s: Setting) -> Command
 }
 
 // Behind `get` and the name of x.
-fn get_of(s: &[u8], at: usize, x: SettingRead) -> WordsRead
+fn get_of(s: &[u8], at: usize, x: Option<Setting>) -> Result<Worded, RefusedAt>
     ensures { result ≡ get_of x (words_at s.now at) }
 {
-    match x {
-        SettingRead::Unknown => WordsRead::Refused(BADCOMMAND, NOWHERE),
-        SettingRead::Is(t) => ended_at(s, at, get_command(t)),
-    }
+    let Some(t) = x else {
+        return Err(UNKNOWN);
+    };
+    ended_at(s, at, get_command(t))
 }
 
 // The words behind `get`.
-pub(crate) fn read_get(s: &[u8], at: usize) -> WordsRead
+pub(crate) fn read_get(s: &[u8], at: usize) -> Result<Worded, RefusedAt>
     ensures { result ≡ read_get (words_at s.now at) }
 {
     let Word { start, end } = words::word_at(s, at);
@@ -74,22 +74,20 @@ pub(crate) fn read_get(s: &[u8], at: usize) -> WordsRead
 }
 
 // Behind `set` and the name of x.
-fn set_of(s: &[u8], at: usize, x: SettingRead) -> WordsRead
+fn set_of(s: &[u8], at: usize, x: Option<Setting>) -> Result<Worded, RefusedAt>
     ensures { result ≡ set_of x (words_at s.now at) }
 {
-    match x {
-        SettingRead::Unknown => WordsRead::Refused(BADCOMMAND, NOWHERE),
-        SettingRead::Is(t) => {
-            if t.read_only() {
-                return WordsRead::Refused(BADCOMMAND, NOWHERE);
-            }
-            one_number(s, at, Numbered::SetTo(t))
-        }
+    let Some(t) = x else {
+        return Err(UNKNOWN);
+    };
+    if t.read_only() {
+        return Err(UNKNOWN);
     }
+    one_number(s, at, Numbered::SetTo(t))
 }
 
 // The words behind `set`.
-pub(crate) fn read_set(s: &[u8], at: usize) -> WordsRead
+pub(crate) fn read_set(s: &[u8], at: usize) -> Result<Worded, RefusedAt>
     ensures { result ≡ read_set (words_at s.now at) }
 {
     let Word { start, end } = words::word_at(s, at);

@@ -1,12 +1,14 @@
 -- How long a reply's data can be: values, the list of warnings, the words of an echo, a refusal's name.
 -- Assumes nothing.
+use Rattle.laws.specs.declared.Refusal.TheVariants.{NoRoom, BadState, TooLong, NotLine, BadSum, BadAddress, NotMine, BadCommand, BadData, BadAxis, DeviceOnly, NoAccess, Parked, StatusBusy, BadReport, NotReply}
+use Rattle.laws.specs.declared.Refusal.{Refusal}
 use mathlib.Core.Path.{◌≡◌, refl, sym, subst}
 use mathlib.Core.Logic.{⊎_elim}
-use mathlib.Core.Bool.{Bool, true, false, cond}
+use mathlib.Core.Bool.{Bool, true, false}
 use mathlib.Core.List.{List, [], ◌∷◌}
 use Prim.Native.Nat.{ℕ, zero, suc, ◌+◌, ◌*◌, ◌≤◌}
 use native.Mathlib.Omega.{arith}
-use lib.Dec.{eqb, leb→le}
+use lib.Dec.{leb→le}
 use lib.ListN.{length, take, length-append}
 use Rattle.laws.specs.Text.{space, text, spaced}
 use Rattle.laws.proofs.Order.{eq_or_ne}
@@ -19,7 +21,7 @@ use Rattle.words.specs.Cutting.{begins, grow, cut}
 use Rattle.words.proofs.Space.{other_yes, other_not}
 use Rattle.words.proofs.Cut.{cut_none, cut_space, cut_inside, cut_alone}
 use Rattle.flags.specs.Flags.{bits, named, warning_names}
-use Rattle.reply.specs.Data.{values, warning_list, echoed, Named, refusals, name_in, refusal_name}
+use Rattle.reply.specs.Data.{values, warning_list, echoed, refusal_name}
 use Rattle.reply.proofs.Lists.{decimals, list_split}
 
 -- ---- values: each of at most 11 bytes, behind a space
@@ -140,23 +142,21 @@ echo_fits s h = go (cut s) (cut_trail s)
     go (w ∷ ws) k = omega (arith, echoed_some w ws)
 
 -- ---- a refusal's name
-abbrev Brief : Named → Type 0
-Brief r = length r.name ≤ 10
-
-name_length : {rs : List Named} (n : ℕ) → Each Brief rs → length (name_in rs n) ≤ 10
-unfolding name_in
-name_length n none = omega arith
-name_length n (more {x = r} {xs = rs} h s) = go (eqb n r.number) (name_length n s)
-  where
-    go : (t : Bool) → length (name_in rs n) ≤ 10 → length (cond t r.name (name_in rs n)) ≤ 10
-    go true k = h
-    go false k = k
-
-names_brief : Each Brief refusals
-unfolding refusals text
-names_brief = more (leb→le 10 10 tt) (more (leb→le 7 10 tt)
-    (more (leb→le 7 10 tt) (more (leb→le 10 10 tt) (more (leb→le 8 10 tt) (more (leb→le 6 10 tt) (more (leb→le 10 10 tt) none))))))
-
-pub refusal_length : (n : ℕ) → length (refusal_name n) ≤ 10
-unfolding refusal_name
-refusal_length n = name_length n names_brief
+pub refusal_length : (n : Refusal) → length (refusal_name n) ≤ 10
+unfolding refusal_name text
+refusal_length NoRoom = leb→le 0 10 tt
+refusal_length BadState = leb→le 0 10 tt
+refusal_length TooLong = leb→le 0 10 tt
+refusal_length NotLine = leb→le 0 10 tt
+refusal_length BadSum = leb→le 0 10 tt
+refusal_length BadAddress = leb→le 0 10 tt
+refusal_length NotMine = leb→le 0 10 tt
+refusal_length BadCommand = leb→le 10 10 tt
+refusal_length BadData = leb→le 7 10 tt
+refusal_length BadAxis = leb→le 7 10 tt
+refusal_length DeviceOnly = leb→le 10 10 tt
+refusal_length NoAccess = leb→le 8 10 tt
+refusal_length Parked = leb→le 6 10 tt
+refusal_length StatusBusy = leb→le 10 10 tt
+refusal_length BadReport = leb→le 0 10 tt
+refusal_length NotReply = leb→le 0 10 tt

@@ -1,9 +1,9 @@
 -- A reply's data: values, the list of warnings, the words of an echo, or a refusal's name.
 -- Which of them a command has is said where the command is obeyed.
-use Rattle.std.specs.Prelude.{List, [], ◌∷◌, map, cond, ℕ, eqb, length, take}
-use Prim.Native.String.{String}
+use Rattle.std.specs.Prelude.{List, [], ◌∷◌, map, ℕ, length, take}
 use Rattle.laws.specs.Text.{text, spaced}
-use Rattle.laws.specs.Refusals.{BADCOMMAND, BADDATA, BADAXIS, DEVICEONLY, NOACCESS, PARKED, STATUSBUSY}
+use Rattle.laws.specs.declared.Refusal.{Refusal}
+use Rattle.laws.specs.declared.Refusal.TheVariants.{BadCommand, BadData, BadAxis, DeviceOnly, NoAccess, Parked, StatusBusy}
 use Rattle.units.specs.declared.Number.{Number}
 use Rattle.numbers.specs.Decimal.{decimal, two_digits}
 use Rattle.flags.specs.Flags.{bits, named, warning_names}
@@ -28,30 +28,13 @@ unfoldable pub echoed : List (List ℕ) → List ℕ
 echoed [] = text "0"
 echoed (w ∷ ws) = spaced (take echoed_words (w ∷ ws))
 
--- "the rejecting reply, its data the name": a refusal's number and its name
-pub record Named : Type 0 where
-  pub number : ℕ
-  pub name : List ℕ
-
-infix 70 ◌is◌
-abbrev ◌is◌ : ℕ → String → Named
-n is w = record { number = n; name = text w }
-
-unfoldable pub refusals : List Named
-refusals =
-    BADCOMMAND is "BADCOMMAND"
-    ∷ BADDATA is "BADDATA"
-    ∷ BADAXIS is "BADAXIS"
-    ∷ DEVICEONLY is "DEVICEONLY"
-    ∷ NOACCESS is "NOACCESS"
-    ∷ PARKED is "PARKED"
-    ∷ STATUSBUSY is "STATUSBUSY"
-    ∷ []
-
--- the name of a number in such a table; no name for a number that is not in it
-unfoldable pub name_in : List Named → ℕ → List ℕ
-name_in [] n = []
-name_in (r ∷ rs) n = cond (eqb n r.number) r.name (name_in rs n)
-
-unfoldable pub refusal_name : ℕ → List ℕ
-refusal_name n = name_in refusals n
+-- "the rejecting reply, its data the name": no other refusal is replied
+unfoldable pub refusal_name : Refusal → List ℕ
+refusal_name BadCommand = text "BADCOMMAND"
+refusal_name BadData = text "BADDATA"
+refusal_name BadAxis = text "BADAXIS"
+refusal_name DeviceOnly = text "DEVICEONLY"
+refusal_name NoAccess = text "NOACCESS"
+refusal_name Parked = text "PARKED"
+refusal_name StatusBusy = text "STATUSBUSY"
+refusal_name n = []

@@ -8,7 +8,7 @@ ghost use Rattle.reply.specs.Data.{warning_list, echoed, refusal_name};
 ghost use Rattle.reply.specs.Pieces.{warning_at};
 
 use buffer::{put_byte, put_text, put_two, put_word};
-use laws::{BADAXIS, BADCOMMAND, BADDATA, DEVICEONLY, NOACCESS, PARKED, STATUSBUSY};
+use laws::Refusal;
 use words::Word;
 
 // "first 17 words": one, and these behind it.
@@ -32,27 +32,27 @@ pub(crate) fn warning_name(place: u32) -> &'static [u8]
     }
 }
 
-// The name of a refusal that is replied; no other number has one.
-#[tactic(auto, unfolding(laws::specs::Text::text, crate::specs::Data::refusals, crate::specs::Data::name_in, crate::specs::Data::refusal_name))]
-fn refusal_name(number: u8) -> &'static [u8]
-    ensures { result.now ≡ refusal_name number }
+// The name of a refusal that is replied; no other has one.
+#[tactic(auto, unfolding(laws::specs::Text::text, crate::specs::Data::refusal_name))]
+fn refusal_name(refusal: Refusal) -> &'static [u8]
+    ensures { result.now ≡ refusal_name refusal }
 {
-    match number {
-        BADCOMMAND => b"BADCOMMAND",
-        BADDATA => b"BADDATA",
-        BADAXIS => b"BADAXIS",
-        DEVICEONLY => b"DEVICEONLY",
-        NOACCESS => b"NOACCESS",
-        PARKED => b"PARKED",
-        STATUSBUSY => b"STATUSBUSY",
+    match refusal {
+        Refusal::BadCommand => b"BADCOMMAND",
+        Refusal::BadData => b"BADDATA",
+        Refusal::BadAxis => b"BADAXIS",
+        Refusal::DeviceOnly => b"DEVICEONLY",
+        Refusal::NoAccess => b"NOACCESS",
+        Refusal::Parked => b"PARKED",
+        Refusal::StatusBusy => b"STATUSBUSY",
         _ => b"",
     }
 }
 
-pub(crate) fn put_refusal(buf: &mut [u8], at: usize, number: u8) -> usize
-    ensures { Wrote buf.old at (refusal_name number) buf.new result }
+pub(crate) fn put_refusal(buf: &mut [u8], at: usize, refusal: Refusal) -> usize
+    ensures { Wrote buf.old at (refusal_name refusal) buf.new result }
 {
-    put_text(buf, at, refusal_name(number))
+    put_text(buf, at, refusal_name(refusal))
 }
 
 // The number of warnings that a mask has, and their names.

@@ -7,6 +7,7 @@ ghost use Rattle.reply.specs.Told.{listed_of, carried as carried_of, told_text, 
 
 use crate::data::{put_echo, put_refusal, put_warnings};
 use buffer::{put_byte, put_signed};
+use laws::Refusal;
 use units::Number;
 
 // The values of the axes that are listed: `many` of the four, from the place `from` on.
@@ -27,7 +28,7 @@ pub enum Told {
     Active(u32),
     Parked(bool),
     Words(usize, usize),
-    Name(u8),
+    Name(Refusal),
     Info,
 }
 

@@ -1,5 +1,6 @@
 -- Whatever motor report a device answers with an alert, the host reads it as that alert: every record, report and buffer.
 -- Assumes nothing.
+use Rattle.laws.specs.Refusals.{ACCEPTED}
 use mathlib.Core.Path.{◌≡◌, refl, ap, ◌∙◌}
 use mathlib.Core.Bool.{true}
 use mathlib.Core.List.{List}
@@ -29,7 +30,7 @@ use Rattle.roundtrip.proofs.Shown.{good_address}
 abbrev pub Alerted : ℕ → Stepped → Type 0
 Alerted k s = read_message (sent_in s) ≡ Some (heard_alert (head_of s.answer.next k true))
 
-alert_heard : (d : Device) (k : ℕ) (b : List ℕ) → good d ≡ true → Alerted k (written 0 d (alert_of d k) b)
+alert_heard : (d : Device) (k : ℕ) (b : List ℕ) → good d ≡ true → Alerted k (written ACCEPTED d (alert_of d k) b)
 unfolding written alert_of head_of
 alert_heard d k b g =
     let t = alert_of d k in

@@ -1,5 +1,6 @@
 -- Each answer of a chain, read by the host, is that device's: for every chain, line and buffer, and each place that answers.
 -- The record there has four axis places, as every one that is reached from a fresh record. Nothing else is assumed.
+use Rattle.std.specs.Prelude.{is_ok}
 use mathlib.Core.Path.{◌≡◌, refl, ap, ◌∙◌}
 use mathlib.Core.Bool.{Bool, true, false, cond}
 use mathlib.Core.List.{List, []}
@@ -27,7 +28,7 @@ pub record Received (i : ℕ) (s : Chained) (c : List ℕ) (d : Device) (l : Lis
 own_answer : (xs : List Device) (l : List ℕ) (room i : ℕ) (d : Device) → i < length xs → (length (answer_at i (chain xs l room)) ≡ 0 → ⊥)
     → answer_at i (chain xs l room) ≡ text_of l (get_or xs i d)
 unfolding chain
-own_answer xs l room i d k = go (eqb (refused xs l room) 0)
+own_answer xs l room i d k = go (is_ok (refused xs l room))
   where
     go : (t : Bool) → let s = cond t (responds l xs) (refuses (refused xs l room) xs) in
         (length (answer_at i s) ≡ 0 → ⊥) → answer_at i s ≡ text_of l (get_or xs i d)

@@ -1,7 +1,11 @@
 -- Every command that the host's writer accepts is written as a spelling of that command, with a checksum and without.
 -- So, by demand 3, the line reader reads it as that same command. Assumes nothing.
-use mathlib.Core.Path.{◌≡◌, refl, sym, subst}
-use mathlib.Core.Bool.{Bool, true, false, ◌||◌}
+use Rattle.std.specs.Prelude.{Ok, Err, Result, is_err}
+use Rattle.laws.specs.declared.Refusal.TheVariants.{NoRoom, TooLong, BadData}
+use Rattle.laws.proofs.Refusals.{not_both}
+use Rattle.laws.specs.declared.Refusal.{Refusal}
+use mathlib.Core.Path.{◌≡◌, refl, sym, subst, ap}
+use mathlib.Core.Bool.{true≢false, Bool, true, false, ◌||◌}
 use mathlib.Core.List.{List, ◌++◌, append_assoc}
 use mathlib.Core.Option.{some}
 use Prim.Native.Nat.{ℕ, ◌≤◌, ◌<◌}
@@ -11,7 +15,7 @@ use lib.ListN.{length, take}
 use lib.Seq.{take_at}
 use borrow.Author.Tests.{ltb-false, eq-eqb, eqb-true}
 use Rattle.laws.specs.Text.{text, spaced}
-use Rattle.laws.specs.Refusals.{first_of}
+use Rattle.laws.specs.Refusals.{first_of, Verdict, ACCEPTED}
 use Rattle.laws.proofs.Bools.{clash, or_left, or_right}
 use Rattle.numbers.specs.Checksum.{checksum, sum_text}
 use Rattle.numbers.proofs.Decimal.{pair_spelled}
@@ -20,7 +24,7 @@ use Rattle.line.specs.Spelling.{Checksum, Asked, Line}
 use Rattle.line.specs.Reading.{read_asked}
 use Rattle.line.proofs.Demand3.{demand_3}
 use Rattle.line.proofs.Every.{line_spelled as composed}
-use Rattle.host_writer.specs.Writing.{line_words, line_end, line_text, unfit, unspellable, writer_refusal, write_line}
+use Rattle.host_writer.specs.Writing.{line_words, line_end, line_text, unfit, unspellable, writer_refusal, write_line, settled}
 use Rattle.roundtrip.specs.Held.{Held}
 use Rattle.roundtrip.proofs.WrittenWords.{carried, row, command_words_lem}
 
@@ -46,13 +50,13 @@ record Accepted (n k : ℕ) (c : Command) (message : List ℕ) (sum : Bool) (b :
   short : length (line_text n k c message sum) ≤ 80
 
 module _ (address axis : ℕ) (c : Command) (message : List ℕ) (sum : Bool) (b : List ℕ) where
-  accepted : writer_refusal address axis c message sum b ≡ 0 → Accepted address axis c message sum b
+  accepted : writer_refusal address axis c message sum b ≡ ACCEPTED → Accepted address axis c message sum b
   unfolding writer_refusal first_of unspellable
   accepted e = one (ltb (length b) 80) refl
     where
       three : (t : Bool) → ltb 80 (length (line_text address axis c message sum)) ≡ t → ltb (length b) 80 ≡ false
           → unspellable address axis c message ≡ false → Accepted address axis c message sum b
-      three true h p q = let y = rw (p, q, h) at e in absurd (omega arith)
+      three true h p q = not_both TooLong (rw (p, q, h) at e)
       three false h p q =
           let u = or_left (ltb 99 address || ltb 9 axis) (unfit c message) q in
           record {
@@ -64,14 +68,14 @@ module _ (address axis : ℕ) (c : Command) (message : List ℕ) (sum : Bool) (b
           }
 
       two : (t : Bool) → unspellable address axis c message ≡ t → ltb (length b) 80 ≡ false → Accepted address axis c message sum b
-      two true h p = let y = rw (p, h) at e in absurd (omega arith)
+      two true h p = not_both BadData (rw (p, h) at e)
       two false h p = three (ltb 80 (length (line_text address axis c message sum))) refl p h
 
       one : (t : Bool) → ltb (length b) 80 ≡ t → Accepted address axis c message sum b
-      one true h = let y = rw h at e in absurd (omega arith)
+      one true h = not_both NoRoom (rw h at e)
       one false h = two (unspellable address axis c message) refl h
 
-  module _ (held : Held c) (ok : writer_refusal address axis c message sum b ≡ 0) where
+  module _ (held : Held c) (ok : writer_refusal address axis c message sum b ≡ ACCEPTED) where
     abbrev s : List ℕ
     s = spaced (line_words address axis c message)
 
@@ -89,15 +93,20 @@ module _ (address axis : ℕ) (c : Command) (message : List ℕ) (sum : Bool) (b
     pub reads_back : read_asked (line_text address axis c message sum) ≡ some (asked address axis c message)
     reads_back = (demand_3 (line_text address axis c message sum) (asked address axis c message)).0 line_spelled
 
-  -- so what the writer leaves in the buffer, where its number is 0, reads back
-  pub buffer_reads_back : Held c → (write_line address axis c message sum b).answer.number ≡ 0
-      → read_asked (take (write_line address axis c message sum b).answer.length (write_line address axis c message sum b).buffer) ≡ some
-      (asked address axis c message)
+  -- so what the writer leaves in the buffer, where it refuses nothing, reads back
+  pub buffer_reads_back : Held c → {n : ℕ} → (write_line address axis c message sum b).answer ≡ Ok n
+      → read_asked (take n (write_line address axis c message sum b).buffer) ≡ some (asked address axis c message)
   unfolding write_line
-  buffer_reads_back held e = go (eqb (writer_refusal address axis c message sum b) 0) refl
+  buffer_reads_back held {n} e = go (writer_refusal address axis c message sum b) refl e
     where
-      go : (t : Bool) → eqb (writer_refusal address axis c message sum b) 0 ≡ t
-          → read_asked (take (write_line address axis c message sum b).answer.length (write_line address axis c message sum b).buffer)
-          ≡ some (asked address axis c message)
-      go true h = rw (h, take_at (line_text address axis c message sum) _ _ refl) (reads_back held (eqb-true _ 0 h))
-      go false h = clash (eq-eqb _ 0 (rw h at e)) h
+      long : Result ℕ Refusal → ℕ
+      long (Ok k) = k
+      long (Err k) = 0
+
+      t : List ℕ
+      t = line_text address axis c message sum
+
+      go : (v : Verdict) → writer_refusal address axis c message sum b ≡ v → (settled v t b).answer ≡ Ok n
+          → read_asked (take n (settled v t b).buffer) ≡ some (asked address axis c message)
+      go (Ok u) h e = rw (← ap long e, take_at t _ _ refl) (reads_back held h)
+      go (Err m) h e = absurd (true≢false (ap is_err e))

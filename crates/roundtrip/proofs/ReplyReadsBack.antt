@@ -1,6 +1,7 @@
 -- Whatever line a device answers, the host reads its reply, and each info line behind it, as what was put in: every record, line and
 -- buffer.
 -- A record has four axis places, as every one that is reached from a fresh record. Nothing else is assumed.
+use Rattle.laws.specs.declared.Refusal.{Refusal}
 use mathlib.Core.Path.{◌≡◌, refl, sym, ap, subst, ◌∙◌}
 use mathlib.Core.Bool.{Bool, true, false, cond}
 use mathlib.Core.List.{List, [], ◌++◌, map, append-nil}
@@ -9,17 +10,14 @@ use native.Mathlib.Omega.{arith}
 use lib.Dec.{eqb}
 use lib.ListN.{length, take, drop}
 use lib.Seq.{take_at}
-use Rattle.std.specs.Prelude.{Option, None, Some}
+use Rattle.std.specs.Prelude.{Option, None, Some, Ok, Err, is_ok}
 use Rattle.laws.specs.Lists.{fold}
 use Rattle.units.specs.Units.{place}
 use Rattle.units.specs.declared.Number.{Number}
 use Rattle.command.specs.declared.Command.{Command}
 use Rattle.command.specs.Commands.{informs}
-use Rattle.phrase.specs.declared.WordsRead.{WordsRead}
-use Rattle.phrase.specs.declared.WordsRead.TheVariants as Words
-use Rattle.line.specs.declared.LineRead.{LineRead}
-use Rattle.line.specs.declared.LineRead.TheVariants.{Silent, Addressed}
-use Rattle.line.specs.Reading.{read_line, carried_by}
+use Rattle.phrase.specs.Reading.{WordsRead, worded}
+use Rattle.line.specs.Reading.{LineRead, read_line, carried_by, sent}
 use Rattle.line.proofs.Carried.{carried_of}
 use Rattle.device.specs.declared.Device.{Device}
 use Rattle.device.specs.Good.{good, ask_fresh}
@@ -48,6 +46,7 @@ use Rattle.host_reader.proofs.HelpReadsBack.{help_reads_back}
 use Rattle.roundtrip.proofs.Rejecting.{Rejecting, bad_command_lem, bad_data_lem, bad_axis_lem, device_only_lem, no_access, parked, status_busy_lem, name_data, device_rejects, line_rejects}
 use Rattle.roundtrip.proofs.ReadWords.{carried_words}
 use Rattle.roundtrip.proofs.Shown.{good_address, data_said}
+use Rattle.laws.specs.Refusals.{refusal_at, Verdict, ACCEPTED}
 
 -- an info line of the device, and its text
 abbrev pub heard : ℕ → List ℕ → Option Message
@@ -62,21 +61,21 @@ pub record Heard (s : Stepped) (k : ℕ) (ok : Bool) (words : List ℕ) (infos t
   pub data_is : field (reply_of s.answer.next k ok words) 17 (length words) ≡ words
   pub informed : map read_message infos ≡ map (heard (place s.answer.next.comm.address.0)) texts
 
--- the texts of the info lines behind a reply beside the number n
+-- the texts of the info lines behind a reply beside a verdict
 abbrev pub texts_of : Command → List (List ℕ)
 texts_of c = cond (informs c) help_texts []
 
-abbrev pub texts_for : WordsRead → ℕ → List (List ℕ)
-texts_for (Words.Refused m p) n = []
-texts_for (Words.Command c from) n = cond (eqb n 0) (texts_of c) []
+abbrev pub texts_for : WordsRead → Verdict → List (List ℕ)
+texts_for (Err e) v = []
+texts_for (Ok x) v = cond (is_ok v) (texts_of x.command) []
 
--- What the host understands of the answer s to a line: the axis is the one that was read of the line, OK stands exactly where the
--- number is 0, and the data are the refusal's name or those of the command that was read. A line that is not read has no reply.
+-- What the host understands of the answer s to a line: the axis is the one that was read of the line, OK stands exactly where it
+-- is accepted, and the data are the refusal's name or those of the command that was read. A line that is not read has no reply.
 abbrev pub Understood : Device → List ℕ → LineRead → Stepped → Type 0
-Understood d l (Silent n p) s = ⊥
-Understood d l (Addressed a k end w) s =
-    let n = s.answer.number in
-    Heard s k (eqb n 0) (data_for d l k end w n) (infos_for s.answer.next w n) (texts_for w n)
+Understood d l (Err e) s = ⊥
+Understood d l (Ok x) s =
+    let v = s.answer.verdict in
+    Heard s x.axis (is_ok v) (data_for d l x.axis x.end x.words v) (infos_for s.answer.next x.words v) (texts_for x.words v)
 
 -- ---- a record that replies is good
 replies_good : (d : Device) (l b : List ℕ) → ((step d l b).answer.length ≡ 0 → ⊥) → good d ≡ true
@@ -96,10 +95,10 @@ informed_by d c g = go (informs c)
     go false = refl
 
 -- ---- one answer: a reply, and info lines behind it
-module _ (n : ℕ) (d : Device) (k : ℕ) (ok : Bool) (words b : List ℕ) (g : good d ≡ true) (said : Data words)
+module _ (v : Verdict) (d : Device) (k : ℕ) (ok : Bool) (words b : List ℕ) (g : good d ≡ true) (said : Data words)
     (short : length words ≤ 74) (infos texts : List (List ℕ))
     (back : map read_message infos ≡ map (heard (place d.comm.address.0)) texts) where
-  answer_heard : Heard (written n d (reply_of d k ok words ++ joined infos) b) k ok words infos texts
+  answer_heard : Heard (written v d (reply_of d k ok words ++ joined infos) b) k ok words infos texts
   unfolding written reply_of head_of
   answer_heard =
       let t = reply_of d k ok words ++ joined infos in
@@ -113,46 +112,36 @@ module _ (n : ℕ) (d : Device) (k : ℕ) (ok : Bool) (words b : List ℕ) (g : 
         informed = back;
       }
 
-not_zero : {n : ℕ} → Rejecting n → eqb n 0 ≡ false
-not_zero bad_command_lem = refl
-not_zero bad_data_lem = refl
-not_zero bad_axis_lem = refl
-not_zero device_only_lem = refl
-not_zero no_access = refl
-not_zero parked = refl
-not_zero status_busy_lem = refl
-
 -- ---- the theorem
 module _ (d : Device) (l b : List ℕ) where
   abbrev Reading : Stepped → Type 0
   Reading s = (s.answer.length ≡ 0 → ⊥) → good s.answer.next ≡ true → Understood d l (read_line l) s
 
-  refused_heard : (n k : ℕ) → Rejecting n → good d ≡ true → Heard (rejected n d k b) k false (refusal_name n) [] []
+  refused_heard : (n : Refusal) (k : ℕ) → Rejecting n → good d ≡ true → Heard (rejected n d k b) k false (refusal_name n) [] []
   unfolding rejected joined fold
   refused_heard n k r g =
       let short : length (refusal_name n) ≤ 74 = omega (arith, refusal_length n) in
-      subst (λ (t : List ℕ). Heard (written n d t b) k false (refusal_name n) [] []) (append-nil (reply_of d k false (refusal_name n)))
-      (answer_heard n d k false (refusal_name n) b g (name_data r) short [] [] refl)
+      subst (λ (t : List ℕ). Heard (written (Err n) d t b) k false (refusal_name n) [] []) (append-nil (reply_of d k false (refusal_name n)))
+      (answer_heard (Err n) d k false (refusal_name n) b g (name_data r) short [] [] refl)
 
-  misspelt_reads : (a k end m p : ℕ) → read_line l ≡ Addressed a k end (Words.Refused m p) → good d ≡ true → Reading (rejected m d k b)
+  misspelt_reads : (a k end : ℕ) (m : Refusal) (p : ℕ) → read_line l ≡ Ok (sent a k end (Err (refusal_at m p))) → good d ≡ true → Reading (rejected m d k b)
   unfolding rejected written
   misspelt_reads a k end m p is g h after =
-      let r : Rejecting m = subst (Rejects Rejecting) is (line_rejects l) in rw (is, not_zero r) (refused_heard m k r g)
+      let r : Rejecting m = subst (Rejects Rejecting) is (line_rejects l) in rw is (refused_heard m k r g)
 
-  refused_reads : (a k end from : ℕ) (c : Command) → read_line l ≡ Addressed a k end (Words.Command c from) → good d ≡ true
-      → (refusal d k c ≡ 0 → ⊥) → Reading (rejected (refusal d k c) d k b)
+  refused_reads : (a k end from : ℕ) (c : Command) (n : Refusal) → read_line l ≡ Ok (sent a k end (Ok (worded c from))) → good d ≡ true
+      → refusal d k c ≡ Err n → Reading (rejected n d k b)
   unfolding rejected written
-  refused_reads a k end from c is g z h after =
-      let r = device_rejects d k c z in rw (is, not_zero r) (refused_heard (refusal d k c) k r g)
+  refused_reads a k end from c n is g z h after = rw is (refused_heard n k (device_rejects d k c z) g)
 
-  accepted_reads : length d.axes ≡ 4 → (a k end from : ℕ) (c : Command) → read_line l ≡ Addressed a k end (Words.Command c from)
-      → good d ≡ true → refusal d k c ≡ 0 → Reading (accepted d k (carried_by c (drop from (take end l))) c b)
+  accepted_reads : length d.axes ≡ 4 → (a k end from : ℕ) (c : Command) → read_line l ≡ Ok (sent a k end (Ok (worded c from)))
+      → good d ≡ true → refusal d k c ≡ ACCEPTED → Reading (accepted d k (carried_by c (drop from (take end l))) c b)
   unfolding accepted written
   accepted_reads four a k end from c is g e h after =
       let es = carried_by c (drop from (take end l)) in
       let w = carried_of l a k end from c is in
       rw is
-      (answer_heard 0 (next d k c) k true (data_of d k es c) b after (data_said d k c four g e (carried_words l w))
+      (answer_heard ACCEPTED (next d k c) k true (data_of d k es c) b after (data_said d k c four g e (carried_words l w))
       (line_fits d k c es l g e w) (infos_of (next d k c) c) (texts_of c) (informed_by (next d k c) c after))
 
   -- Whatever a record with four axis places answers with a reply, the host understands as this.

@@ -1,5 +1,6 @@
 -- On a good record the data of every accepted command's reply is data as the host reads it.
 -- The record has four axis places, as every device record has.
+use Rattle.laws.specs.Refusals.{ACCEPTED}
 use mathlib.Core.Path.{◌≡◌, refl}
 use mathlib.Core.Logic.{⊎_elim}
 use mathlib.Core.Bool.{Bool, true, false, cond}
@@ -89,7 +90,7 @@ module _ (d : Device) (k : ℕ) (four : length d.axes ≡ 4) (some : 1 ≤ d.cou
   text_said h f Kind.Words = echoed_data h
   text_said h f Kind.Info = one_data (word_of (text "0") refl)
 
-pub data_said : {ws : List (List ℕ)} (d : Device) (k : ℕ) (c : Command) → length d.axes ≡ 4 → good d ≡ true → refusal d k c ≡ 0
+pub data_said : {ws : List (List ℕ)} (d : Device) (k : ℕ) (c : Command) → length d.axes ≡ 4 → good d ≡ true → refusal d k c ≡ ACCEPTED
     → Each Word ws → Data (data_of d k ws c)
 unfolding data_of bad_axis
 data_said d k c four g e h =

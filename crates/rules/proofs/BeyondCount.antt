@@ -1,5 +1,7 @@
 -- Places beyond the axis count never change, under any command or report, over every record.
 -- Assumes nothing.
+use mathlib.Core.Logic.{⊎_elim}
+use Rattle.laws.proofs.Refusals.{accepted_or}
 use mathlib.Core.Path.{◌≡◌, refl, ap, ◌∙◌}
 use mathlib.Core.Bool.{false}
 use mathlib.Core.List.{List}
@@ -67,20 +69,14 @@ beyond_next d k (OfDevice c) i b l = ap (λ (x : List Axis). get_or x i fresh_ax
 pub beyond_count : (d : Device) (k : ℕ) (c : Command) (i : ℕ) → d.count ≤ i → at (obey d k c).next i ≡ at d i
 unfolding obey
 beyond_count d k c i l =
-    elim (ℕ_discrete (obey d k c).number 0) [
-      | yes e ↦ ap (λ (x : Device). at x i) (accepted_next d k c e) ∙ beyond_next d k c i (within_count d k c e) l
-      | no h ↦ ap (λ (x : Device). at x i) (refusal_keeps d k c h)
-    ]
+    ⊎_elim (λ e. ap (λ (x : Device). at x i) (accepted_next d k c e) ∙ beyond_next d k c i (within_count d k c e) l) (λ h. ap (λ (x : Device). at x i) (refusal_keeps d k c h)) (accepted_or (obey d k c).verdict)
 
 pub report_beyond : (d : Device) (axis : Number) (r : Report) (i : ℕ) → d.count ≤ i → at (report d axis r).next i ≡ at d i
 unfolding report is_axis
 report_beyond d axis r i l =
     let k = place axis.0 in
-    elim (ℕ_discrete (report d axis r).number 0) [
-      | yes e ↦ ap (λ (x : Device). at x i) (report_next d axis r e)
-          ∙ beyond_axes (reported r) d k i (leb-true k d.count (and_right (leb 1 k) (leb k d.count) (an_axis d k r e))) l
-      | no h ↦ ap (λ (x : Device). at x i) (report_keeps d axis r h)
-    ]
+    ⊎_elim (λ e. ap (λ (x : Device). at x i) (report_next d axis r e)
+          ∙ beyond_axes (reported r) d k i (leb-true k d.count (and_right (leb 1 k) (leb k d.count) (an_axis d k r e))) l) (λ h. ap (λ (x : Device). at x i) (report_keeps d axis r h)) (accepted_or (report d axis r).verdict)
 
 -- and there are as many places after it as before
 length_next : (d : Device) (k : ℕ) (c : Command) → length (next d k c).axes ≡ length d.axes
@@ -90,7 +86,4 @@ length_next d k (OfDevice c) = ap length (after_keeps c d).0
 
 pub places_stay : (d : Device) (k : ℕ) (c : Command) → length (obey d k c).next.axes ≡ length d.axes
 places_stay d k c =
-    elim (ℕ_discrete (obey d k c).number 0) [
-      | yes e ↦ ap (λ (x : Device). length x.axes) (accepted_next d k c e) ∙ length_next d k c
-      | no h ↦ ap (λ (x : Device). length x.axes) (refusal_keeps d k c h)
-    ]
+    ⊎_elim (λ e. ap (λ (x : Device). length x.axes) (accepted_next d k c e) ∙ length_next d k c) (λ h. ap (λ (x : Device). length x.axes) (refusal_keeps d k c h)) (accepted_or (obey d k c).verdict)

@@ -1,11 +1,13 @@
 -- Cases of document 01 and of the settled readings, computed from the definitions: one table under one statement.
 -- Each line has a record, an axis, a command, and the number that is expected.
+use Rattle.std.specs.Prelude.{Err}
+use Rattle.laws.specs.declared.Refusal.TheVariants.{BadCommand, BadData, BadAxis, DeviceOnly, NoAccess, Parked, StatusBusy, BadReport}
 use mathlib.Core.Path.{◌≡◌, refl}
 use mathlib.Core.List.{List, [], ◌∷◌, map}
 use Prim.Native.Nat.{ℕ}
 use lib.IntN.{ℤ, pos}
 use Rattle.laws.specs.Lists.{fold, change_first, change_from}
-use Rattle.laws.specs.Refusals.{first_of}
+use Rattle.laws.specs.Refusals.{first_of, ACCEPTED, Verdict}
 use Rattle.units.specs.Units.{minus, position, speed, number}
 use Rattle.command.specs.declared.AxisCommand.TheVariants as AxisCommand
 use Rattle.command.specs.declared.DeviceCommand.TheVariants as DeviceCommand
@@ -50,52 +52,52 @@ record Case : Type 0 where
   device : Device
   axis : ℕ
   command : Command
-  number : ℕ
+  verdict : Verdict
 
 infix 20 ◌on◌asks◌gives◌
-abbrev ◌on◌asks◌gives◌ : Device → ℕ → Command → ℕ → Case
-d on k asks c gives n = record { device = d; axis = k; command = c; number = n }
+abbrev ◌on◌asks◌gives◌ : Device → ℕ → Command → Verdict → Case
+d on k asks c gives v = record { device = d; axis = k; command = c; verdict = v }
 
 unfoldable cases : List Case
 cases =
-    (new on 0 asks OfAxes AxisCommand.Nothing gives 0)
-    ∷ (new on 7 asks OfAxes AxisCommand.Home gives 12)
-    ∷ (new on 1 asks OfDevice (DeviceCommand.Get CommAlert) gives 13)
-    ∷ (new on 7 asks OfDevice (DeviceCommand.Get CommAlert) gives 12)
-    ∷ (new on 0 asks OfAxes (AxisCommand.Set DriverDir (number (pos 1))) gives 14)
-    ∷ (new on 0 asks OfDevice (DeviceCommand.Set CommAddress (number (pos 5))) gives 0)
-    ∷ (new on 0 asks OfDevice (DeviceCommand.Set CommAddress (number (pos 100))) gives 11)
-    ∷ (bare on 0 asks OfDevice (DeviceCommand.Set CommAddress (number (pos 100))) gives 11)
-    ∷ (new on 7 asks OfDevice (DeviceCommand.Set DeviceId (number (pos 5))) gives 10)
-    ∷ (new on 7 asks OfAxes (AxisCommand.Set DriverCurrentMax (number (pos 5))) gives 10)
-    ∷ (new on 0 asks OfAxes (AxisCommand.Set Pos (number (pos 2147483647))) gives 11)
-    ∷ (new on 0 asks OfAxes (AxisCommand.MoveTo (Rel (position (pos 10000)))) gives 11)
-    ∷ (homed on 0 asks OfAxes (AxisCommand.MoveTo (Abs (position (pos 305381)))) gives 0)
-    ∷ (homed on 0 asks OfAxes (AxisCommand.MoveTo (Abs (position (pos 305382)))) gives 11)
-    ∷ (homed on 0 asks OfAxes (AxisCommand.MoveTo (Abs (position (pos 0)))) gives 0)
-    ∷ (homed on 0 asks OfAxes (AxisCommand.MoveTo (Rel (position (minus 1)))) gives 11)
-    ∷ (homed on 1 asks OfAxes (AxisCommand.MoveTo (Rel (position (pos 2147483647)))) gives 11)
-    ∷ (homed on 1 asks OfAxes (AxisCommand.MoveTo (Stored (number (pos 17)))) gives 11)
-    ∷ (homed on 7 asks OfAxes (AxisCommand.MoveTo (Stored (number (pos 17)))) gives 12)
-    ∷ (homed on 1 asks OfAxes (AxisCommand.MoveVel (speed (minus 153600))) gives 0)
-    ∷ (homed on 1 asks OfAxes (AxisCommand.MoveVel (speed (pos 153601))) gives 11)
-    ∷ (homed on 2 asks OfAxes (AxisCommand.Set DriverCurrentRun (number (pos 140))) gives 0)
-    ∷ (homed on 2 asks OfAxes (AxisCommand.Set DriverCurrentRun (number (pos 141))) gives 11)
-    ∷ (homed on 1 asks OfAxes (AxisCommand.StoreposAt (number (pos 16)) (position (pos 305382))) gives 11)
-    ∷ (homing on 0 asks OfAxes (AxisCommand.Set Pos (number (pos 2147483647))) gives 16)
-    ∷ (homing on 1 asks OfAxes (AxisCommand.Set Pos (number (pos 5))) gives 0)
-    ∷ (homing on 0 asks OfDevice DeviceCommand.Park gives 16)
-    ∷ (in_park on 0 asks OfAxes AxisCommand.Stop gives 15)
-    ∷ (in_park on 0 asks OfAxes AxisCommand.Home gives 0)
-    ∷ (in_park on 2 asks OfAxes AxisCommand.Home gives 0)
-    ∷ (in_park on 7 asks OfAxes AxisCommand.Home gives 12)
-    ∷ ((obey in_park 2 (OfAxes AxisCommand.Home)).next on 0 asks OfAxes AxisCommand.Stop gives 0)
-    ∷ ((obey in_park 7 (OfAxes AxisCommand.Home)).next on 0 asks OfAxes AxisCommand.Stop gives 15)
-    ∷ (in_park on 0 asks OfAxes (AxisCommand.Set MaxSpeed (number (pos 5))) gives 0)
-    ∷ (in_park on 0 asks OfDevice DeviceCommand.Unpark gives 0)
+    (new on 0 asks OfAxes AxisCommand.Nothing gives ACCEPTED)
+    ∷ (new on 7 asks OfAxes AxisCommand.Home gives Err BadAxis)
+    ∷ (new on 1 asks OfDevice (DeviceCommand.Get CommAlert) gives Err DeviceOnly)
+    ∷ (new on 7 asks OfDevice (DeviceCommand.Get CommAlert) gives Err BadAxis)
+    ∷ (new on 0 asks OfAxes (AxisCommand.Set DriverDir (number (pos 1))) gives Err NoAccess)
+    ∷ (new on 0 asks OfDevice (DeviceCommand.Set CommAddress (number (pos 5))) gives ACCEPTED)
+    ∷ (new on 0 asks OfDevice (DeviceCommand.Set CommAddress (number (pos 100))) gives Err BadData)
+    ∷ (bare on 0 asks OfDevice (DeviceCommand.Set CommAddress (number (pos 100))) gives Err BadData)
+    ∷ (new on 7 asks OfDevice (DeviceCommand.Set DeviceId (number (pos 5))) gives Err BadCommand)
+    ∷ (new on 7 asks OfAxes (AxisCommand.Set DriverCurrentMax (number (pos 5))) gives Err BadCommand)
+    ∷ (new on 0 asks OfAxes (AxisCommand.Set Pos (number (pos 2147483647))) gives Err BadData)
+    ∷ (new on 0 asks OfAxes (AxisCommand.MoveTo (Rel (position (pos 10000)))) gives Err BadData)
+    ∷ (homed on 0 asks OfAxes (AxisCommand.MoveTo (Abs (position (pos 305381)))) gives ACCEPTED)
+    ∷ (homed on 0 asks OfAxes (AxisCommand.MoveTo (Abs (position (pos 305382)))) gives Err BadData)
+    ∷ (homed on 0 asks OfAxes (AxisCommand.MoveTo (Abs (position (pos 0)))) gives ACCEPTED)
+    ∷ (homed on 0 asks OfAxes (AxisCommand.MoveTo (Rel (position (minus 1)))) gives Err BadData)
+    ∷ (homed on 1 asks OfAxes (AxisCommand.MoveTo (Rel (position (pos 2147483647)))) gives Err BadData)
+    ∷ (homed on 1 asks OfAxes (AxisCommand.MoveTo (Stored (number (pos 17)))) gives Err BadData)
+    ∷ (homed on 7 asks OfAxes (AxisCommand.MoveTo (Stored (number (pos 17)))) gives Err BadAxis)
+    ∷ (homed on 1 asks OfAxes (AxisCommand.MoveVel (speed (minus 153600))) gives ACCEPTED)
+    ∷ (homed on 1 asks OfAxes (AxisCommand.MoveVel (speed (pos 153601))) gives Err BadData)
+    ∷ (homed on 2 asks OfAxes (AxisCommand.Set DriverCurrentRun (number (pos 140))) gives ACCEPTED)
+    ∷ (homed on 2 asks OfAxes (AxisCommand.Set DriverCurrentRun (number (pos 141))) gives Err BadData)
+    ∷ (homed on 1 asks OfAxes (AxisCommand.StoreposAt (number (pos 16)) (position (pos 305382))) gives Err BadData)
+    ∷ (homing on 0 asks OfAxes (AxisCommand.Set Pos (number (pos 2147483647))) gives Err StatusBusy)
+    ∷ (homing on 1 asks OfAxes (AxisCommand.Set Pos (number (pos 5))) gives ACCEPTED)
+    ∷ (homing on 0 asks OfDevice DeviceCommand.Park gives Err StatusBusy)
+    ∷ (in_park on 0 asks OfAxes AxisCommand.Stop gives Err Parked)
+    ∷ (in_park on 0 asks OfAxes AxisCommand.Home gives ACCEPTED)
+    ∷ (in_park on 2 asks OfAxes AxisCommand.Home gives ACCEPTED)
+    ∷ (in_park on 7 asks OfAxes AxisCommand.Home gives Err BadAxis)
+    ∷ ((obey in_park 2 (OfAxes AxisCommand.Home)).next on 0 asks OfAxes AxisCommand.Stop gives ACCEPTED)
+    ∷ ((obey in_park 7 (OfAxes AxisCommand.Home)).next on 0 asks OfAxes AxisCommand.Stop gives Err Parked)
+    ∷ (in_park on 0 asks OfAxes (AxisCommand.Set MaxSpeed (number (pos 5))) gives ACCEPTED)
+    ∷ (in_park on 0 asks OfDevice DeviceCommand.Unpark gives ACCEPTED)
     ∷ []
 
-all_cases : map (λ (c : Case). (obey c.device c.axis c.command).number) cases ≡ map (λ (c : Case). c.number) cases
+all_cases : map (λ (c : Case). (obey c.device c.axis c.command).verdict) cases ≡ map (λ (c : Case). c.verdict) cases
 unfolding cases new bare told homed homing in_park obey refusal first_of bad_axis device_only no_access parked status_busy bad_data next on_axes
     axes_of
     many fold change_from change_first may_move_to may_run_at may_store stored moved store stopped fresh fresh_axis fresh_settings good good_axis
@@ -108,33 +110,33 @@ record Reported : Type 0 where
   axis : ℕ
   kind : ℕ
   last : ℤ
-  number : ℕ
+  verdict : Verdict
 
 infix 20 ◌on◌reports◌with◌gives◌
-abbrev ◌on◌reports◌with◌gives◌ : Device → ℕ → ℕ → ℤ → ℕ → Reported
-d on k reports q with p gives n = record { device = d; axis = k; kind = q; last = p; number = n }
+abbrev ◌on◌reports◌with◌gives◌ : Device → ℕ → ℕ → ℤ → Verdict → Reported
+d on k reports q with p gives v = record { device = d; axis = k; kind = q; last = p; verdict = v }
 
 unfoldable motor_reports : List Reported
 motor_reports =
-    (new on 1 reports 1 with pos 0 gives 22)
-    ∷ (new on 1 reports 3 with pos 0 gives 22)
-    ∷ (new on 1 reports 4 with pos 7 gives 0)
-    ∷ (new on 1 reports 4 with pos 8 gives 22)
-    ∷ (new on 1 reports 5 with pos 0 gives 0)
-    ∷ (new on 1 reports 6 with pos 0 gives 22)
-    ∷ (new on 0 reports 5 with pos 0 gives 22)
-    ∷ (new on 3 reports 5 with pos 0 gives 22)
-    ∷ (homing on 2 reports 1 with pos 1000000000 gives 0)
-    ∷ (homing on 2 reports 1 with pos 1000000001 gives 22)
-    ∷ (homing on 2 reports 3 with minus 5 gives 0)
-    ∷ ((obey homing 2 (OfAxes AxisCommand.Stop)).next on 2 reports 3 with pos 0 gives 22)
-    ∷ ((obey homing 2 (OfAxes AxisCommand.Stop)).next on 2 reports 2 with pos 0 gives 0)
+    (new on 1 reports 1 with pos 0 gives Err BadReport)
+    ∷ (new on 1 reports 3 with pos 0 gives Err BadReport)
+    ∷ (new on 1 reports 4 with pos 7 gives ACCEPTED)
+    ∷ (new on 1 reports 4 with pos 8 gives Err BadReport)
+    ∷ (new on 1 reports 5 with pos 0 gives ACCEPTED)
+    ∷ (new on 1 reports 6 with pos 0 gives Err BadReport)
+    ∷ (new on 0 reports 5 with pos 0 gives Err BadReport)
+    ∷ (new on 3 reports 5 with pos 0 gives Err BadReport)
+    ∷ (homing on 2 reports 1 with pos 1000000000 gives ACCEPTED)
+    ∷ (homing on 2 reports 1 with pos 1000000001 gives Err BadReport)
+    ∷ (homing on 2 reports 3 with minus 5 gives ACCEPTED)
+    ∷ ((obey homing 2 (OfAxes AxisCommand.Stop)).next on 2 reports 3 with pos 0 gives Err BadReport)
+    ∷ ((obey homing 2 (OfAxes AxisCommand.Stop)).next on 2 reports 2 with pos 0 gives ACCEPTED)
     ∷ []
 
-abbrev answer : Reported → ℕ
-answer c = (report c.device (number (pos c.axis)) (report_of (number (pos c.kind)) (number c.last))).number
+abbrev answer : Reported → Verdict
+answer c = (report c.device (number (pos c.axis)) (report_of (number (pos c.kind)) (number c.last))).verdict
 
-all_reports : map answer motor_reports ≡ map (λ (c : Reported). c.number) motor_reports
+all_reports : map answer motor_reports ≡ map (λ (c : Reported). c.verdict) motor_reports
 unfolding motor_reports new homing obey refusal first_of bad_axis device_only no_access parked status_busy bad_data next on_axes axes_of many fold
     change_from change_first stopped fresh fresh_axis fresh_settings good good_axis axis_settings device_settings report report_of report_refusal
     bad_report is_axis raise raised

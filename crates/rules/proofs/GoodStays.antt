@@ -1,9 +1,11 @@
 -- A good record stays good under every command and every motor report.
 -- Assumes nothing else of the record.
+use mathlib.Core.Logic.{⊎_elim}
+use Rattle.laws.proofs.Refusals.{accepted_or}
+use Rattle.laws.specs.Refusals.{ACCEPTED}
 use mathlib.Core.Path.{◌≡◌, refl, ap}
 use mathlib.Core.Bool.{Bool, true, false, not, ◌&&◌}
 use Prim.Native.Nat.{ℕ, ◌-◌, ◌≤◌}
-use native.Mathlib.Decide.{ℕ_discrete}
 use native.Mathlib.Omega.{arith}
 use lib.Dec.{eqb}
 use lib.IntN.{pos}
@@ -178,7 +180,7 @@ whole_device k c h = eqb-true k 0 (not_false (eqb k 0) h)
 
 module _ (d : Device) (k : ℕ) (h : Good d) where
   -- the axes after a command: none is set in motion on a device that is parked and stays so
-  axes_after : (c : AxisCommand) → refusal d k (OfAxes c) ≡ 0 → (v u : Bool) → unparks c ≡ v → (demands (OfAxes c)).unparked ≡ u
+  axes_after : (c : AxisCommand) → refusal d k (OfAxes c) ≡ ACCEPTED → (v u : Bool) → unparks c ≡ v → (demands (OfAxes c)).unparked ≡ u
       → Good (on_axes (axis_after c) k (with_parked (not v && d.parked) d))
   unfolding parked axes_of many
   axes_after c e true u w z =
@@ -190,11 +192,11 @@ module _ (d : Device) (k : ℕ) (h : Good d) where
       still_good d k (axis_after c) (permits c) (each_permits d k c e) (after_good c) h (after_still c w z)
 
   -- park meets no axis in motion
-  none_moving : refusal d k (OfDevice Park) ≡ 0 → any moving (axes_of d 0) ≡ false
+  none_moving : refusal d k (OfDevice Park) ≡ ACCEPTED → any moving (axes_of d 0) ≡ false
   unfolding status_busy
   none_moving e = rw (whole_device k Park (in_scope d k (OfDevice Park) e)) at (not_busy d k (OfDevice Park) e)
 
-  device_after_lem : (c : DeviceCommand) → refusal d k (OfDevice c) ≡ 0 → Good (device_after c d)
+  device_after_lem : (c : DeviceCommand) → refusal d k (OfDevice c) ≡ ACCEPTED → Good (device_after c d)
   device_after_lem (Get s) e = h
   device_after_lem (Set s n) e = put_good n d h s (device_takes_lem d k (Set s n) e)
   device_after_lem ParkingState e = h
@@ -203,7 +205,7 @@ module _ (d : Device) (k : ℕ) (h : Good d) where
   device_after_lem Echo e = h
   device_after_lem Help e = h
 
-  next_good : (c : Command) → refusal d k c ≡ 0 → Good (next d k c)
+  next_good : (c : Command) → refusal d k c ≡ ACCEPTED → Good (next d k c)
   unfolding next
   next_good (OfAxes c) e = axes_after c e (unparks c) (demands (OfAxes c)).unparked refl refl
   next_good (OfDevice c) e = device_after_lem c e
@@ -212,18 +214,12 @@ module _ (d : Device) (k : ℕ) (h : Good d) where
 pub good_stays : (d : Device) (k : ℕ) (c : Command) → good d ≡ true → good (obey d k c).next ≡ true
 unfolding obey
 good_stays d k c h =
-    elim (ℕ_discrete (obey d k c).number 0) [
-      | yes e ↦ rw (accepted_next d k c e) (whole (next d k c) (next_good d k (goodness d h) c e))
-      | no n ↦ rw (refusal_keeps d k c n) h
-    ]
+    ⊎_elim (λ e. rw (accepted_next d k c e) (whole (next d k c) (next_good d k (goodness d h) c e))) (λ n. rw (refusal_keeps d k c n) h) (accepted_or (obey d k c).verdict)
 
 -- and under every motor report
 pub report_good : (d : Device) (axis : Number) (r : Report) → good d ≡ true → good (report d axis r).next ≡ true
 unfolding report
 report_good d axis r h =
     let k = place axis.0 in
-    elim (ℕ_discrete (report d axis r).number 0) [
-      | yes e ↦ rw (report_next d axis r e) (whole (on_axes (reported r) k d)
-          (still_good d k (reported r) (takes r) (taken d k r e) (λ a t g. reported_good a g r t) (goodness d h) (reported_still r)))
-      | no n ↦ rw (report_keeps d axis r n) h
-    ]
+    ⊎_elim (λ e. rw (report_next d axis r e) (whole (on_axes (reported r) k d)
+          (still_good d k (reported r) (takes r) (taken d k r e) (λ a t g. reported_good a g r t) (goodness d h) (reported_still r)))) (λ n. rw (report_keeps d axis r n) h) (accepted_or (report d axis r).verdict)

@@ -4,7 +4,8 @@ use mathlib.Core.Path.{◌≡◌, refl}
 use mathlib.Core.Bool.{true, false}
 use mathlib.Core.List.{[], ◌∷◌}
 use Prim.Native.Nat.{ℕ}
-use Rattle.laws.specs.Refusals.{◌when◌, first_of, BADAXIS, NOACCESS}
+use Rattle.laws.specs.declared.Refusal.TheVariants.{BadAxis, NoAccess}
+use Rattle.laws.specs.Refusals.{◌when◌, first_of, ACCEPTED}
 use Rattle.laws.proofs.Bools.{and_false}
 use Rattle.laws.proofs.Walks.{all_alike}
 use Rattle.command.specs.declared.AxisCommand.TheVariants.{Home}
@@ -26,17 +27,17 @@ abbrev pub homing : ℕ → Device → Device
 homing k d = on_axes (with_motion Homing) k (with_parked false d)
 
 module _ (d : Device) (k : ℕ) where
-  pub home_unparks : (obey d k (OfAxes Home)).number ≡ 0 → (obey d k (OfAxes Home)).next ≡ homing k d
+  pub home_unparks : (obey d k (OfAxes Home)).verdict ≡ ACCEPTED → (obey d k (OfAxes Home)).next ≡ homing k d
   unfolding next
   home_unparks e = accepted_next d k (OfAxes Home) e
 
   -- the rows of the table that home can meet: "PARKED no longer given for home"
-  pub home_meets : (obey d k (OfAxes Home)).number
-      ≡ first_of (BADAXIS when bad_axis d k ∷ NOACCESS when no_access d (demands (OfAxes Home)) ∷ [])
+  pub home_meets : (obey d k (OfAxes Home)).verdict
+      ≡ first_of (BadAxis when bad_axis d k ∷ NoAccess when no_access d (demands (OfAxes Home)) ∷ [])
   unfolding obey refusal first_of device_only parked status_busy bad_data
   home_meets = rw (and_false d.parked, all_alike (permits Home) (λ a. refl) (axes_of d k)) refl
 
   -- a good record has the access that it takes: parked or not, it is accepted for each axis that there is
-  pub home_taken : good d ≡ true → bad_axis d k ≡ false → (obey d k (OfAxes Home)).number ≡ 0
+  pub home_taken : good d ≡ true → bad_axis d k ≡ false → (obey d k (OfAxes Home)).verdict ≡ ACCEPTED
   unfolding first_of no_access
   home_taken g h = rw (home_meets, h, enough_access d g) refl

@@ -1,5 +1,7 @@
 -- A target outside the limits of any axis concerned is refused with 11, unless an earlier check applies, and no axis moves.
 -- Over every good record; that it is refused, and nothing moves, over every record.
+use Rattle.std.specs.Prelude.{Err}
+use Rattle.laws.specs.declared.Refusal.TheVariants.{BadData}
 use mathlib.Core.Path.{◌≡◌, refl}
 use mathlib.Core.Bool.{Bool, true, false, not, ◌&&◌}
 use mathlib.Core.List.{List, [], ◌∷◌}
@@ -10,7 +12,7 @@ use lib.IntN.{ℤ, pos, negsuc}
 use lib.Signed.{le_z}
 use borrow.Author.Tests.{le-ltb, leb-true}
 use Rattle.laws.specs.Lists.{fold, all, any}
-use Rattle.laws.specs.Refusals.{first_of}
+use Rattle.laws.specs.Refusals.{first_of, ACCEPTED}
 use Rattle.laws.proofs.Bools.{and_left, and_right, and_both, clash, is_true}
 use Rattle.laws.proofs.Walks.{nth}
 use Rattle.units.specs.Units.{place}
@@ -57,7 +59,7 @@ module _ (d : Device) (k : ℕ) (t : Target) (out : inside t (axes_of d k) ≡ f
   some_may_not = is_false (all (permits (MoveTo t)) (axes_of d k)) (λ h. clash (may_inside t (axes_of d k) h) out)
 
   -- over every record: the move is refused
-  pub outside_refused : (obey d k (OfAxes (MoveTo t))).number ≡ 0 → ⊥
+  pub outside_refused : (obey d k (OfAxes (MoveTo t))).verdict ≡ ACCEPTED → ⊥
   unfolding obey
   outside_refused e = clash (each_permits d k (MoveTo t) e) some_may_not
 
@@ -79,9 +81,9 @@ enough_access d g =
 
 -- the earlier checks that a move can meet are 12 BADAXIS and 15 PARKED
 pub outside_11 : (d : Device) (k : ℕ) (t : Target) → good d ≡ true → bad_axis d k ≡ false → d.parked ≡ false
-    → inside t (axes_of d k) ≡ false → (obey d k (OfAxes (MoveTo t))).number ≡ 11
+    → inside t (axes_of d k) ≡ false → (obey d k (OfAxes (MoveTo t))).verdict ≡ Err BadData
 unfolding obey refusal first_of device_only no_access parked status_busy bad_data
 outside_11 d k t g a p out = go (demands (OfAxes (MoveTo t))) (move_demands t)
   where
-    go : (x : Demands) → x ≡ demands (OfAxes (MoveTo Min)) → first_of (rows d k (OfAxes (MoveTo t)) x) ≡ 11
+    go : (x : Demands) → x ≡ demands (OfAxes (MoveTo Min)) → first_of (rows d k (OfAxes (MoveTo t)) x) ≡ Err BadData
     go x e = rw e (simp (a, enough_access d g, p, some_may_not d k t out))

@@ -1,8 +1,9 @@
 -- A refusal leaves the record as it was: of a command and of a motor report, over every record.
 -- Assumes nothing.
+use Rattle.laws.proofs.Refusals.{is_accepted, is_refused}
+use Rattle.laws.specs.Refusals.{ACCEPTED}
 use mathlib.Core.Path.{◌≡◌}
 use Prim.Native.Nat.{ℕ}
-use borrow.Author.Tests.{eq-eqb, ne_eqb}
 use Rattle.units.specs.Units.{place}
 use Rattle.axis.specs.Reports.{reported}
 use Rattle.device.specs.Record.{on_axes}
@@ -15,21 +16,21 @@ use Rattle.rules.specs.Effects.{next, obey}
 use Rattle.rules.specs.Reports.{report_refusal, report}
 
 -- "10 to 16 ... change no record"
-pub refusal_keeps : (d : Device) (k : ℕ) (c : Command) → ((obey d k c).number ≡ 0 → ⊥) → (obey d k c).next ≡ d
+pub refusal_keeps : (d : Device) (k : ℕ) (c : Command) → ((obey d k c).verdict ≡ ACCEPTED → ⊥) → (obey d k c).next ≡ d
 unfolding obey
-refusal_keeps d k c h = simp (ne_eqb (refusal d k c) 0 h)
+refusal_keeps d k c h = simp (is_refused (refusal d k c) h)
 
 -- and an accepted command gives the next record
-pub accepted_next : (d : Device) (k : ℕ) (c : Command) → (obey d k c).number ≡ 0 → (obey d k c).next ≡ next d k c
+pub accepted_next : (d : Device) (k : ℕ) (c : Command) → (obey d k c).verdict ≡ ACCEPTED → (obey d k c).next ≡ next d k c
 unfolding obey
-accepted_next d k c h = simp (eq-eqb (refusal d k c) 0 h)
+accepted_next d k c h = simp (is_accepted (refusal d k c) h)
 
 -- "Refusals ... of reports ... change nothing"
-pub report_keeps : (d : Device) (axis : Number) (r : Report) → ((report d axis r).number ≡ 0 → ⊥) → (report d axis r).next ≡ d
+pub report_keeps : (d : Device) (axis : Number) (r : Report) → ((report d axis r).verdict ≡ ACCEPTED → ⊥) → (report d axis r).next ≡ d
 unfolding report
-report_keeps d axis r h = simp (ne_eqb (report_refusal d (place axis.0) r) 0 h)
+report_keeps d axis r h = simp (is_refused (report_refusal d (place axis.0) r) h)
 
-pub report_next : (d : Device) (axis : Number) (r : Report) → (report d axis r).number ≡ 0
+pub report_next : (d : Device) (axis : Number) (r : Report) → (report d axis r).verdict ≡ ACCEPTED
     → (report d axis r).next ≡ on_axes (reported r) (place axis.0) d
 unfolding report
-report_next d axis r h = simp (eq-eqb (report_refusal d (place axis.0) r) 0 h)
+report_next d axis r h = simp (is_accepted (report_refusal d (place axis.0) r) h)

@@ -1,6 +1,7 @@
 -- A report is of one axis: what is asked of the axes that its number means is asked of that one, and so is what is done to them.
 -- Assumes that the number is of one of the places that there are.
-use mathlib.Core.Path.{◌≡◌, refl, sym}
+use Rattle.std.specs.Prelude.{is_ok}
+use mathlib.Core.Path.{◌≡◌, refl, sym, ◌∙◌}
 use mathlib.Core.Bool.{Bool, true, false, not}
 use mathlib.Core.List.{List, [], ◌∷◌}
 use Prim.Native.Nat.{ℕ, zero, suc, ◌-◌, ◌≤◌, ◌<◌}
@@ -9,8 +10,9 @@ use native.Mathlib.Omega.{arith}
 use lib.Dec.{leb}
 use lib.ListN.{length, get_or, set, take, drop}
 use borrow.Author.Tests.{leb-true, ne_eqb}
+use Rattle.laws.proofs.Refusals.{accepted_is}
 use Rattle.laws.specs.Lists.{fold, all, change_from}
-use Rattle.laws.specs.Refusals.{ACCEPTED}
+use Rattle.laws.specs.Refusals.{ACCEPTED, Verdict}
 use Rattle.laws.proofs.Bools.{and_left, and_right, and_true}
 use Rattle.laws.proofs.Folds.{change_more, change_none}
 use Rattle.units.specs.Units.{place}
@@ -31,7 +33,7 @@ axis_range d k h =
     (leb-true 1 k (and_left (leb 1 k) (leb k d.count) h), leb-true k d.count (and_right (leb 1 k) (leb k d.count) h))
 
 -- a report that is taken is of one of the four places
-pub told_range : (d : Device) (k : ℕ) (r : Report) → report_refusal d k r ≡ 0 → (1 ≤ k) × (k ≤ 4)
+pub told_range : (d : Device) (k : ℕ) (r : Report) → report_refusal d k r ≡ ACCEPTED → (1 ≤ k) × (k ≤ 4)
 told_range d k r e =
     let a = axis_range d k (an_axis d k r e) in
     (a.0, omega (arith, a.1, good_count d (told_good d k r e)))
@@ -67,9 +69,15 @@ pub no_axis : (d : Device) (k : ℕ) (r : Report) → is_axis d k ≡ false → 
 unfolding bad_report
 no_axis d k r h = rw h
 
--- the outcome of a report that is taken
-module _ (d : Device) (axis : Number) (r : Report) (e : report_refusal d (place axis.0) r ≡ 0) where
-  pub told : {xs : List Axis} → xs ≡ change_from (reported r) (place axis.0 - 1) 1 d.axes
-      → ◌≡◌ {A = Outcome} (record { number = ACCEPTED; next = with_axes xs d }) (report d axis r)
+-- the outcome of a report, by its verdict
+module _ (d : Device) (axis : Number) (r : Report) {v : Verdict} (is : v ≡ report_refusal d (place axis.0) r) where
+  pub taken_next : is_ok v ≡ true → {xs : List Axis} → xs ≡ change_from (reported r) (place axis.0 - 1) 1 d.axes
+      → ◌≡◌ {A = Outcome} (record { verdict = v; next = with_axes xs d }) (report d axis r)
   unfolding report
-  told h = rw (h, told_one d (place axis.0) (told_range d _ r e).0 (reported r)) (simp e)
+  taken_next h p =
+      let e : report_refusal d (place axis.0) r ≡ ACCEPTED = sym is ∙ accepted_is v h in
+      rw (is, p, told_one d (place axis.0) (told_range d _ r e).0 (reported r)) (simp e)
+
+  pub refused_next : is_ok v ≡ false → ◌≡◌ {A = Outcome} (record { verdict = v; next = d }) (report d axis r)
+  unfolding report
+  refused_next h = simp (is, rw is at h)

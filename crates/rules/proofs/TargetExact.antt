@@ -1,11 +1,12 @@
 -- An accepted move's target is the number asked for, never another; and no axis moves unless all do.
 -- Over every record, good or not.
+use Rattle.laws.proofs.Refusals.{accepted_or}
+use Rattle.laws.specs.Refusals.{ACCEPTED}
 use mathlib.Core.Path.{◌≡◌, refl, ap, ◌∙◌}
 use mathlib.Core.Bool.{true}
 use mathlib.Core.List.{List}
-use mathlib.Core.Logic.{◌⊎◌, inl, inr}
+use mathlib.Core.Logic.{◌⊎◌, inl, inr, ⊎_elim}
 use Prim.Native.Nat.{ℕ, ◌-◌}
-use native.Mathlib.Decide.{ℕ_discrete}
 use Rattle.laws.proofs.Walks.{change_agree}
 use Rattle.units.specs.Units.{position}
 use Rattle.command.specs.declared.AxisCommand.TheVariants.{MoveTo}
@@ -31,7 +32,7 @@ unfolding moved
 goes t a h = simp h
 
 -- an accepted move sends each axis that it concerns to the target that was asked for, and does nothing else
-pub target_exact : (d : Device) (k : ℕ) (t : Target) → (obey d k (OfAxes (MoveTo t))).number ≡ 0
+pub target_exact : (d : Device) (k : ℕ) (t : Target) → (obey d k (OfAxes (MoveTo t))).verdict ≡ ACCEPTED
     → (obey d k (OfAxes (MoveTo t))).next ≡ on_axes (sent t) k d
 unfolding obey next on_axes axes_of
 target_exact d k t e =
@@ -47,5 +48,4 @@ abs_exact p a = refl
 pub all_or_none : (d : Device) (k : ℕ) (t : Target)
     → ((obey d k (OfAxes (MoveTo t))).next ≡ d) ⊎ ((obey d k (OfAxes (MoveTo t))).next ≡ on_axes (sent t) k d)
 all_or_none d k t =
-    elim (ℕ_discrete (obey d k (OfAxes (MoveTo t))).number 0)
-    [ yes e ↦ inr (target_exact d k t e) | no h ↦ inl (refusal_keeps d k (OfAxes (MoveTo t)) h) ]
+    ⊎_elim (λ e. inr (target_exact d k t e)) (λ h. inl (refusal_keeps d k (OfAxes (MoveTo t)) h)) (accepted_or (obey d k (OfAxes (MoveTo t))).verdict)

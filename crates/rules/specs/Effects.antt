@@ -1,6 +1,6 @@
 -- What each command does: the next record, and with the refusal the outcome.
 -- "10 to 16 ... change no record. Accepted is 0."
-use Rattle.std.specs.Prelude.{true, false, cond, not, ◌&&◌, ℕ, eqb}
+use Rattle.std.specs.Prelude.{true, false, cond, not, ◌&&◌, ℕ, is_ok}
 use Rattle.command.specs.declared.DeviceCommand.{DeviceCommand}
 use Rattle.command.specs.declared.DeviceCommand.TheVariants.{Get, Set, ParkingState, Park, Unpark, Echo, Help}
 use Rattle.command.specs.declared.Command.{Command}
@@ -28,4 +28,4 @@ next d k (OfAxes c) = on_axes (axis_after c) k (with_parked (not (unparks c) && 
 next d k (OfDevice c) = device_after c d
 
 unfoldable pub obey : Device → ℕ → Command → Outcome
-obey d k c = record { number = refusal d k c; next = cond (eqb (refusal d k c) 0) (next d k c) d }
+obey d k c = record { verdict = refusal d k c; next = cond (is_ok (refusal d k c)) (next d k c) d }

@@ -2,7 +2,8 @@
 -- Each check runs over every axis that the command concerns before the next check.
 use Rattle.std.specs.Prelude.{Bool, true, false, not, ◌&&◌, List, [], ◌∷◌, ◌++◌, ℕ, eqb, ltb}
 use Rattle.laws.specs.Lists.{all, any}
-use Rattle.laws.specs.Refusals.{Refusal, ◌when◌, first_of, BADCOMMAND, BADDATA, BADAXIS, DEVICEONLY, NOACCESS, PARKED, STATUSBUSY}
+use Rattle.laws.specs.declared.Refusal.TheVariants.{BadCommand, BadData, BadAxis, DeviceOnly, NoAccess, Parked, StatusBusy}
+use Rattle.laws.specs.Refusals.{Row, ◌when◌, first_of, Verdict}
 use Rattle.units.specs.Units.{place}
 use Rattle.command.specs.declared.DeviceCommand.{DeviceCommand}
 use Rattle.command.specs.declared.DeviceCommand.TheVariants.{Get, Set, ParkingState, Park, Unpark, Echo, Help}
@@ -55,23 +56,23 @@ bad_data d k (OfDevice c) = not (device_takes c)
 
 -- the table, where x is what the command demands: its rows above the last, and then all of it. BADCOMMAND here is "set of a
 -- read-only setting", which the line reader never gives: a device that is given one refuses it too.
-abbrev pub standing_rows : Device → ℕ → Command → Demands → List Refusal
+abbrev pub standing_rows : Device → ℕ → Command → Demands → List Row
 standing_rows d k c x =
-    BADCOMMAND when x.barred
-    ∷ BADAXIS when bad_axis d k
-    ∷ DEVICEONLY when device_only k c
-    ∷ NOACCESS when no_access d x
-    ∷ PARKED when parked d x
-    ∷ STATUSBUSY when status_busy d k x
+    BadCommand when x.barred
+    ∷ BadAxis when bad_axis d k
+    ∷ DeviceOnly when device_only k c
+    ∷ NoAccess when no_access d x
+    ∷ Parked when parked d x
+    ∷ StatusBusy when status_busy d k x
     ∷ []
 
-abbrev pub rows : Device → ℕ → Command → Demands → List Refusal
-rows d k c x = standing_rows d k c x ++ (BADDATA when bad_data d k c ∷ [])
+abbrev pub rows : Device → ℕ → Command → Demands → List Row
+rows d k c x = standing_rows d k c x ++ (BadData when bad_data d k c ∷ [])
 
 -- "Checks run in the table's order and the first that applies wins."
-unfoldable pub refusal : Device → ℕ → Command → ℕ
+unfoldable pub refusal : Device → ℕ → Command → Verdict
 refusal d k c = first_of (rows d k c (demands c))
 
 -- the refusal, and beside it what the command demands
 abbrev pub ruled : Device → ℕ → Command → Ruled
-ruled d k c = record { number = refusal d k c; demands = demands c }
+ruled d k c = record { verdict = refusal d k c; demands = demands c }

@@ -9,13 +9,13 @@ ghost use Rattle.rules.specs.Refusals.{standing_rows, rows, ruled};
 use command::kinds::Demands;
 use command::{Command, DeviceCommand};
 use device::Device;
-use laws::{ACCEPTED, BADAXIS, BADCOMMAND, BADDATA, DEVICEONLY, NOACCESS, PARKED, STATUSBUSY};
+use laws::Refusal;
 use settings::device_allows;
 
-// The number of the refusal that a command meets first, or 0, and what the command demands.
+// The refusal that a command meets first, if any, and what the command demands.
 #[derive(Clone, Copy)]
 pub struct Ruled {
-    pub number: u8,
+    pub verdict: Result<(), Refusal>,
     pub demands: Demands,
 }
 
@@ -86,48 +86,45 @@ fn bad_data(d: Device, k: u64, c: Command) -> bool
 }
 
 // The first row that applies of those above 11 BADDATA; 10 BADCOMMAND is a set of a read-only setting.
-fn standing(d: Device, k: u64, c: Command, x: Demands) -> u8
+fn standing(d: Device, k: u64, c: Command, x: Demands) -> Result<(), Refusal>
     ensures { result ≡ first_of (standing_rows d k c x) }
 {
     if x.barred {
-        return BADCOMMAND;
+        return Err(Refusal::BadCommand);
     }
     if bad_axis(d, k) {
-        return BADAXIS;
+        return Err(Refusal::BadAxis);
     }
     if device_only(k, c) {
-        return DEVICEONLY;
+        return Err(Refusal::DeviceOnly);
     }
     if no_access(d, x) {
-        return NOACCESS;
+        return Err(Refusal::NoAccess);
     }
     if parked_for(d, x) {
-        return PARKED;
+        return Err(Refusal::Parked);
     }
     if status_busy(d, k, x) {
-        return STATUSBUSY;
+        return Err(Refusal::StatusBusy);
     }
-    ACCEPTED
+    Ok(())
 }
 
 // The first row that applies. `standing` is apart because the compiler holds a call behind so many returns for cold, and would
 // not inline the walk of `bad_data` there.
-fn refusal(d: Device, k: u64, c: Command, x: Demands) -> u8
+fn refusal(d: Device, k: u64, c: Command, x: Demands) -> Result<(), Refusal>
     requires { x ≡ demands c }
     ensures { result ≡ first_of (rows d k c x) }
 {
-    let n = standing(d, k, c, x);
-    if n != 0 {
-        return n;
-    }
+    standing(d, k, c, x)?;
     // what only shows has no value, target, reference or range
     if x.shows {
-        return ACCEPTED;
+        return Ok(());
     }
     if bad_data(d, k, c) {
-        return BADDATA;
+        return Err(Refusal::BadData);
     }
-    ACCEPTED
+    Ok(())
 }
 
 // The ruling on a command for axis k, 0 for all axes.
@@ -136,7 +133,7 @@ pub fn rule(d: Device, k: u64, c: Command) -> Ruled
 {
     let x = c.form().demands();
     Ruled {
-        number: refusal(d, k, c, x),
+        verdict: refusal(d, k, c, x),
         demands: x,
     }
 }

@@ -1,4 +1,4 @@
-// Motor reports to the device: 21, then 22, or 0 and the next record.
+// Motor reports to the device: 21, then 22, or the next record.
 // A refused report changes nothing.
 ghost use Rattle.std.specs.Prelude.{◌≡◌, ◌-◌, ◌≤◌, take, drop};
 ghost use Rattle.laws.specs.Lists.{all, change_from};
@@ -8,7 +8,7 @@ ghost use Rattle.rules.specs.Reports.{is_axis, bad_report, report_refusal, repor
 use axis::Axis;
 use axis::reports::Report;
 use device::{Device, Outcome};
-use laws::{ACCEPTED, BADREPORT, BADSTATE};
+use laws::Refusal;
 use units::Number;
 
 // Is k an axis from 1 up to the count?
@@ -41,17 +41,17 @@ fn bad_report(d: Device, k: u64, r: Report) -> bool
     }
 }
 
-fn report_refusal(d: Device, k: u64, r: Report) -> u8
+fn report_refusal(d: Device, k: u64, r: Report) -> Result<(), Refusal>
     ensures { result ≡ report_refusal d k r }
 {
     let g = d.good();
     if !g {
-        return BADSTATE;
+        return Err(Refusal::BadState);
     }
     if bad_report(d, k, r) {
-        return BADREPORT;
+        return Err(Refusal::BadReport);
     }
-    ACCEPTED
+    Ok(())
 }
 
 // The axes with what the report makes of the one at k.
@@ -65,21 +65,16 @@ fn reported_at(mut axes: [Axis; 4], k: u64, r: Report) -> [Axis; 4]
     axes
 }
 
-// The number of the refusal and the record as it was, or 0 and the next record.
+// The refusal and the record as it was, or the next record.
 pub fn report(mut d: Device, axis: Number, r: Report) -> Outcome
     ensures { result ≡ report_of d axis r }
 {
     let k = axis.place() as u64;
-    let n = report_refusal(d, k, r);
-    if n == 0 {
+    let verdict = report_refusal(d, k, r);
+    if verdict.is_ok() {
         let axes = d.axes;
         let next = reported_at(axes, k, r);
         d.axes = next;
-        Outcome {
-            number: ACCEPTED,
-            next: d,
-        }
-    } else {
-        Outcome { number: n, next: d }
     }
+    Outcome { verdict, next: d }
 }

@@ -1,5 +1,6 @@
 -- A line that is answered with info lines has twelve bytes at least: it is `help commands`, whose words stand in it.
 -- Assumes nothing.
+use Rattle.std.specs.Prelude.{Ok}
 use mathlib.Core.Path.{◌≡◌, refl, subst, ap}
 use mathlib.Core.Bool.{true}
 use mathlib.Core.List.{List, [], ◌∷◌, ◌++◌}
@@ -13,13 +14,12 @@ use Rattle.command.specs.declared.Command.{Command}
 use Rattle.command.specs.declared.Command.TheVariants.{OfDevice}
 use Rattle.command.specs.Commands.{informs}
 use Rattle.command.proofs.Informing.{only_help_informs}
-use Rattle.phrase.specs.declared.WordsRead.TheVariants as Words
 use Rattle.phrase.specs.Spelling.{Row}
-use Rattle.line.specs.declared.LineRead.TheVariants.{Addressed}
 use Rattle.line.specs.Spelling.{Asked, Line, line}
 use Rattle.line.specs.Spelling as Spelling
-use Rattle.line.specs.Reading.{read_line, carried_by, asked_by, read_asked}
+use Rattle.line.specs.Reading.{read_line, carried_by, asked_by, read_asked, sent}
 use Rattle.line.proofs.Demand3.{demand_3}
+use Rattle.phrase.specs.Reading.{worded}
 
 -- the bytes of words, without the spaces between them
 abbrev bytes : List (List ℕ) → ℕ
@@ -49,7 +49,7 @@ unfolding text
 line_long e (line {s = s} {k = k} {f = f} c w x y short) =
     omega (arith, content_long c, words_long e w, length-append (47 ∷ s) k, length-append (47 ∷ s ++ k) f)
 
-pub help_long : (l : List ℕ) (a k end from : ℕ) (c : Command) → read_line l ≡ Addressed a k end (Words.Command c from) → informs c ≡ true
+pub help_long : (l : List ℕ) (a k end from : ℕ) (c : Command) → read_line l ≡ Ok (sent a k end (Ok (worded c from))) → informs c ≡ true
     → 12 ≤ length l
 unfolding read_asked
 help_long l a k end from c is e =

@@ -7,12 +7,12 @@ use mathlib.Core.List.{List, [], ◌∷◌}
 use Prim.Native.Nat.{ℕ, ◌<◌}
 use native.Mathlib.Omega.{arith}
 use lib.ListN.{length, take, replicate, length-take}
-use Rattle.laws.specs.Refusals.{TOOLONG, NOWHERE}
+use Rattle.laws.specs.declared.Refusal.TheVariants.{TooLong}
+use Rattle.laws.specs.Refusals.{NOWHERE, refusal_at}
 use borrow.Author.Tests.{lt-ltb}
-use Rattle.line.specs.declared.LineRead.TheVariants.{Silent}
 use Rattle.line.specs.Reading.{read_line}
 use Rattle.line.proofs.Frames.{too_long_lem}
-use Rattle.std.specs.Prelude.{None}
+use Rattle.std.specs.Prelude.{None, Err}
 use Rattle.input.specs.ReportLines.{read_report}
 use Rattle.input.specs.Prints.{is_report}
 use Rattle.device.specs.declared.Device.{Device}
@@ -21,7 +21,7 @@ use Rattle.reply.specs.Help.{longest_answer}
 use Rattle.carriage.specs.Step.{step, respond, refused_at}
 use Rattle.session.specs.Bench.{line_turn, turn, shown}
 
-long_line : (l : List ℕ) → 80 < length l → read_line l ≡ Silent TOOLONG NOWHERE
+long_line : (l : List ℕ) → 80 < length l → read_line l ≡ Err (refusal_at TooLong NOWHERE)
 unfolding read_line
 long_line l h = simp (too_long_lem l h)
 

@@ -21,17 +21,18 @@ use Rattle.input.specs.Parts.{parts}
 use Rattle.input.specs.Prints.{is_report, reported, answered, caret}
 use Rattle.input.proofs.Prints.{first_bytes}
 use Rattle.session.specs.Bench.{Turn, Took, report_answer, line_turn, report_turn, turn, shown, turns, bench_device, bench}
+use Rattle.laws.specs.Refusals.{number_of}
 
 -- ---- a line, a report
 module _ (d : Device) (p : List ℕ) {b o : List ℕ} {at r : ℕ} where
   pub took_line : {a : Answer} {c : List ℕ} → Gives (step d p (replicate longest_answer 0)) a c
-      → Wrote b at (answered a.number a.length c) o r
+      → Wrote b at (answered (number_of a.verdict) a.length c) o r
       → Took (line_turn d p) b at (record { place = r; next = a.next }) o
   unfolding line_turn
   took_line g w = rw (← g.result, ← g.left) (record { prints = w; next = refl })
 
   pub took_report : {q : Option MotorReport} {a : Answer} {c : List ℕ} → q ≡ read_report p → Gives (report_answer d q (replicate 96 0)) a c
-      → Wrote b at (reported a.number a.length c) o r
+      → Wrote b at (reported (number_of a.verdict) a.length c) o r
       → Took (report_turn d (read_report p)) b at (record { place = r; next = a.next }) o
   unfolding report_turn
   took_report q g w = rw (← q, ← g.result, ← g.left) (record { prints = w; next = refl })

@@ -1,7 +1,7 @@
 -- What the program `bench` prints, from the bytes of its standard input to those of its standard output.
 -- A part is a line or a motor report; it prints one line, or several with info lines or an alert, and makes the next record.
-use Rattle.std.specs.Prelude.{◌≡◌, Option, None, Some, cond, List, [], ◌∷◌, ◌++◌, ℕ, pos as plus, take, replicate}
-use Rattle.laws.specs.Refusals.{BADREPORT}
+use Rattle.std.specs.Prelude.{◌≡◌, Option, None, Some, cond, List, [], ◌∷◌, ◌++◌, ℕ, pos as plus, take, replicate, Err}
+use Rattle.laws.specs.declared.Refusal.TheVariants.{BadReport}
 use Rattle.units.specs.Units.{number}
 use Rattle.buffer.specs.Wrote.{Wrote}
 use Rattle.device.specs.declared.Device.{Device}
@@ -15,6 +15,7 @@ use Rattle.input.specs.declared.reports.MotorReport.{MotorReport}
 use Rattle.input.specs.ReportLines.{read_report}
 use Rattle.input.specs.Parts.{parts}
 use Rattle.input.specs.Prints.{is_report, reported, answered, caret}
+use Rattle.laws.specs.Refusals.{number_of}
 
 -- what a part prints, and the next record
 pub record Turn : Type 0 where
@@ -23,20 +24,20 @@ pub record Turn : Type 0 where
 
 -- "22 if misspelt, over 80 bytes or without a footer"
 abbrev pub report_answer : Device → Option MotorReport → List ℕ → Stepped
-report_answer d None b = silent BADREPORT d b
+report_answer d None b = silent (Err BadReport) d b
 report_answer d (Some r) b = report d r.axis r.kind r.last b
 
 -- "it prints `report N`", and behind it the alert; the buffer that is lent has 96 bytes
 unfoldable pub report_turn : Device → Option MotorReport → Turn
 report_turn d r =
     let s = report_answer d r (replicate longest_reply 0) in
-    record { prints = reported s.answer.number s.answer.length s.buffer; next = s.answer.next }
+    record { prints = reported (number_of s.answer.verdict) s.answer.length s.buffer; next = s.answer.next }
 
 -- "prints the reply, or `silent N`"; the buffer that is lent has 96 bytes for the reply and for each info line
 unfoldable pub line_turn : Device → List ℕ → Turn
 line_turn d p =
     let s = step d p (replicate longest_answer 0) in
-    record { prints = answered s.answer.number s.answer.length s.buffer; next = s.answer.next }
+    record { prints = answered (number_of s.answer.verdict) s.answer.length s.buffer; next = s.answer.next }
 
 unfoldable pub turn : Device → List ℕ → Turn
 turn d p = cond (is_report p) (report_turn d (read_report p)) (line_turn d p)

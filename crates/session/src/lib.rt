@@ -13,7 +13,7 @@ use carriage::Answer;
 use device::Device;
 use input::parts::{Turned, is_report, put_answer, put_caret, put_reported};
 use input::reports::MotorReport;
-use laws::BADREPORT;
+use laws::{Refusal, number_of};
 use reply::{LONGEST_ANSWER, LONGEST_REPLY};
 use units::Number;
 
@@ -27,7 +27,7 @@ fn report_answer(d: Device, report: Option<MotorReport>, alert: &mut [u8]) -> An
     match report {
         Some(MotorReport { axis, kind, last }) => carriage::report(d, axis, kind, last, alert),
         None => Answer {
-            number: BADREPORT,
+            verdict: Err(Refusal::BadReport),
             length: 0,
             next: d,
         },
@@ -41,7 +41,7 @@ fn report_turn(d: Device, part: &[u8], out: &mut [u8], at: usize) -> Turned<Devi
     let a = report_answer(d, input::reports::read_report(part), &mut alert);
     let next = a.next;
     Turned {
-        place: put_reported(out, at, a.number, a.length, &alert),
+        place: put_reported(out, at, number_of(a.verdict), a.length, &alert),
         next,
     }
 }
@@ -53,7 +53,7 @@ fn line_turn(d: Device, part: &[u8], out: &mut [u8], at: usize) -> Turned<Device
     let a = carriage::step(d, part, &mut reply);
     let next = a.next;
     Turned {
-        place: put_answer(out, at, a.number, a.length, &reply),
+        place: put_answer(out, at, number_of(a.verdict), a.length, &reply),
         next,
     }
 }

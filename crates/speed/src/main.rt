@@ -36,7 +36,10 @@ fn step_often(first: Device, line: &[u8], many: usize, reply: &mut [u8]) -> u64 
     let mut sum = 0;
     for _ in 0..many {
         let a = carriage::step(d, line, reply);
-        sum = added(added(sum, u64::from(a.number)), a.length as u64);
+        sum = added(
+            added(sum, u64::from(laws::number_of(a.verdict))),
+            a.length as u64,
+        );
         d = a.next;
     }
     sum
@@ -45,7 +48,7 @@ fn step_often(first: Device, line: &[u8], many: usize, reply: &mut [u8]) -> u64 
 // The numbers of the report are how often the line is obeyed, how many axes there are, and 1 where these are homed first.
 fn run(asked: MotorReport, line: &[u8]) -> Option<Tally> {
     let fresh = Device::fresh(Number(1), (asked.kind.place() % 256) as u8, Number(100));
-    if fresh.number != 0 {
+    if fresh.verdict.is_err() {
         return None;
     }
     let mut reply = [0u8; LONGEST_ANSWER];

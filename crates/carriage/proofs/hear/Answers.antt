@@ -6,18 +6,18 @@ use Rattle.carriage.proofs.hear.Goals as goal
 
 pub returns-then-room-lt-LONGEST_REPLY : goal.returns-then-room-lt-LONGEST_REPLY
 returns-then-room-lt-LONGEST_REPLY c =
-    let a = c.args in heard_small a.own a.good a.line.now a.room c.if-room-lt-LONGEST_REPLY.true
+    let a = c.args in rw c.nowhere.ensures (heard_small a.own a.good a.line.now a.room c.if-room-lt-LONGEST_REPLY.true)
 
 pub returns-then-not-good : goal.returns-then-not-good
 returns-then-not-good c =
     let a = c.args in
-    heard_bad a.own a.good a.line.now a.room c.if-room-lt-LONGEST_REPLY.false (ap not c.if-not-good.true)
+    rw c.nowhere-then-not-good.ensures (heard_bad a.own a.good a.line.now a.room c.if-room-lt-LONGEST_REPLY.false (ap not c.if-not-good.true))
 
 pub returns-then-room-foreign : goal.returns-then-room-foreign
 returns-then-room-foreign c =
     let a = c.args in
-    heard_foreign a.own a.good a.line.now a.room c.if-room-lt-LONGEST_REPLY.false (ap not c.if-not-good.false)
-    c.open_line-o.ensures c.foreign.ensures c.if-room-foreign.true
+    rw c.nowhere-then-room-foreign.ensures (heard_foreign a.own a.good a.line.now a.room c.if-room-lt-LONGEST_REPLY.false (ap not c.if-not-good.false)
+    c.open_line-o.ensures c.foreign.ensures c.if-room-foreign.true)
 
 pub returns : goal.returns
 returns c =

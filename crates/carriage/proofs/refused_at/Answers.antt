@@ -4,4 +4,4 @@ use Rattle.carriage.proofs.refused_at.Goals as goal
 
 pub returns : goal.returns
 returns c =
-    heard_place _ _ c.good.ensures c.place-own.ensures c.hear.ensures c.place.ensures
+    heard_place _ _ c.good.ensures c.place-own.ensures c.hear.ensures c.place_read.ensures

@@ -29,7 +29,7 @@ put_reply-length-requires c =
     let a = c.args in
     let w = once_as a.d a.line.now a.r a.reply.now c.good-good.ensures c.overhear.ensures
     c.rule.ensures c.in-Rejected.is in
-    (w.fair.0, rejection_digit _ _ _ _ _ _ w c.heading_of.ensures, omega (arith, refusal_length c.in-Rejected.n))
+    (w.fair.0, rejection_digit _ _ _ _ _ _ w c.heading_of.ensures, omega (arith, refusal_length c.in-Rejected.refusal))
 
 pub put_answer-length-requires : goal.put_answer-length-requires
 put_answer-length-requires c =

@@ -9,7 +9,7 @@ pub returns-then-room-room_for : goal.returns-then-room-room_for
 returns-then-room-room_for c =
     let a = c.args in
     let e = c.room_for.ensures in
-    roomy_short a.room a.r (rw e at c.if-room-room_for.true)
+    rw c.nowhere.ensures (roomy_short a.room a.r (rw e at c.if-room-room_for.true))
 
 pub returns : goal.returns
 returns c =

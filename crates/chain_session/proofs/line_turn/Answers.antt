@@ -15,4 +15,4 @@ pub returns : goal.returns
 returns c =
     let sixteen : length c.args.c.devices ≡ 16 = search (rules, unmapped) in
     took_line c.args.c sixteen c.min-room.ensures c.args.part.now
-    (length-take-le _ _ (omega (arith, c.min-room.ensures))) _ c.hear-h.ensures c.put_answer.ensures
+    (length-take-le _ _ (omega (arith, c.min-room.ensures))) _ c.hear-h.ensures (rw c.number_of.ensures at c.put_answer.ensures)

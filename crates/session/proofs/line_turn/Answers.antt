@@ -4,4 +4,4 @@ use Rattle.session.proofs.line_turn.Goals as goal
 
 pub returns : goal.returns
 returns c =
-    took_line _ _ c.step-a.ensures c.put_answer.ensures
+    took_line _ _ c.step-a.ensures (rw c.number_of.ensures at c.put_answer.ensures)

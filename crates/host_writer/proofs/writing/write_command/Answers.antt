@@ -19,7 +19,7 @@ returns-then-end-gt-LONGEST_LINE c =
 pub returns : goal.returns
 returns c =
     accepted _ _ _ _ _ _ c.if-buf-lt-LONGEST_LINE.false (sym c.is_unspellable.ensures ∙ c.if-is_unspellable.false)
-    c.put_line-end.ensures refl c.if-end-gt-LONGEST_LINE.false c.put_text-length.ensures
+    c.put_line-end.ensures refl c.if-end-gt-LONGEST_LINE.false c.put_text.ensures
 
 pub slice_bounds-put_text-end : goal.slice_bounds-put_text-end
 slice_bounds-put_text-end c = simp length-take (omega (arith, c.put_line-end.auto.buf))

@@ -1,8 +1,8 @@
 -- A word that is no address is 4, with the place in the line where it refuses.
 use Rattle.line.proofs.reading.addressee_of.Goals as goal
 
-pub returns-in-Refused : goal.returns-in-Refused
-returns-in-Refused c = simp c.in-Refused.is
+pub returns-in-Err : goal.returns-in-Err
+returns-in-Err c = rw (c.in-Err.is, c.at.ensures)
 
-pub returns-in-Value : goal.returns-in-Value
-returns-in-Value c = simp c.in-Value.is
+pub returns-in-Ok : goal.returns-in-Ok
+returns-in-Ok c = simp c.in-Ok.is

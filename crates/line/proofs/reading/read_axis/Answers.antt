@@ -9,8 +9,8 @@ overflow_add-i c =
 
 pub returns-then-d-lt10 : goal.returns-then-d-lt10
 returns-then-d-lt10 c =
-    with_axis _ _ c.start_of-i.ensures _ c.digit_at-d.ensures c.if-d-lt10.true c.read_command.ensures.read
+    with_axis _ _ c.start_of-i.ensures _ c.digit_at-d.ensures c.if-d-lt10.true c.addressed.ensures
 
 pub returns : goal.returns
 returns c =
-    without_axis _ _ c.start_of-i.ensures _ c.digit_at-d.ensures c.if-d-lt10.false c.read_command-2.ensures.read
+    without_axis _ _ c.start_of-i.ensures _ c.digit_at-d.ensures c.if-d-lt10.false c.addressed-2.ensures
