@@ -4,6 +4,7 @@
 ghost use Rattle.std.specs.Prelude.{◌≡◌, length, take};
 ghost use Rattle.words.specs.Cutting.{bytes_of, words_at, head_word};
 ghost use Rattle.phrase.specs.Reading.{read_command};
+ghost use Rattle.numbers.specs.Reading.{digit_told};
 ghost use Rattle.line.specs.Reading.{sent, begins_number, starts_number, axis_of, number_of, place_read, asked_by, read_asked};
 ghost use Rattle.line.specs.Refusals.{refusal_of};
 ghost use Rattle.line.specs.Place.{place_of};
@@ -12,20 +13,19 @@ ghost use Rattle.line.specs.Opening.{digit_at, AddressPlaces, addressee, open_wo
 use crate::framing::read_frame;
 use crate::{Addressed, Opening};
 use laws::{NOWHERE, Refusal, RefusedAt};
-use numbers::digits::{NO_DIGIT, digit_value};
+use numbers::digits::digit_value;
 use units::lesser;
 
 // Is it a digit or a sign?
+#[tactic(auto, using(std::proofs::lemmas::Bool::Decides::nat_tests, numbers::proofs::Value::told_some, numbers::proofs::Value::told_none), unfolding(crate::specs::Reading::begins_number))]
 fn begins_number(c: u8) -> bool
     ensures { result ≡ begins_number c }
 {
-    if c == b'+' {
-        return true;
+    match (c, digit_value(c)) {
+        (b'+' | b'-', _) => true,
+        (_, Some(d)) => d < 10,
+        _ => false,
     }
-    if c == b'-' {
-        return true;
-    }
-    digit_value(c) < 10
 }
 
 // Does the first word from at on begin as a number? Its first byte tells.
@@ -40,19 +40,18 @@ fn number_at(s: &[u8], at: usize) -> bool
 }
 
 // The digit that a word from i on is, if it has one byte, or none. Two bytes tell.
-fn digit_at(s: &[u8], i: usize) -> u64
-    ensures { result ≡ digit_at s.now i }
+#[tactic(auto, using(std::proofs::lemmas::Bool::Decides::nat_tests), unfolding(crate::specs::Opening::digit_at))]
+fn digit_at(s: &[u8], i: usize) -> Option<u64>
+    ensures { result ≡ digit_told (digit_at s.now i) }
 {
     if s.len() <= i {
-        return NO_DIGIT;
+        return None;
     }
-    if s.len() - i == 1 {
-        return digit_value(s[i]);
+    if s.len() - i == 1 || s[i + 1] == b' ' {
+        digit_value(s[i])
+    } else {
+        None
     }
-    if s[i + 1] == b' ' {
-        return digit_value(s[i]);
-    }
-    NO_DIGIT
 }
 
 // What a line up to the end of its content says to an address and an axis, in the words of a command from a place on.
@@ -72,11 +71,10 @@ fn read_axis(s: &[u8], at: usize, n: u64) -> Result<Addressed, RefusedAt>
     ensures { result ≡ axis_of n (length s.now) (words_at s.now at) }
 {
     let i = words::start_of(s, at);
-    let d = digit_at(s, i);
-    if d < 10 {
-        return Ok(addressed(s, i + 1, n, d));
+    match digit_at(s, i) {
+        Some(d) if d < 10 => Ok(addressed(s, i + 1, n, d)),
+        _ => Ok(addressed(s, at, n, 0)),
     }
-    Ok(addressed(s, at, n, 0))
 }
 
 // A first word that starts at a place and comes to a as an address; the content goes on from a place up to its end.

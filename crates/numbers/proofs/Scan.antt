@@ -64,17 +64,19 @@ module _ (b most from : ℕ) (w : List ℕ) where
       here : scan b most n i (get_or w i 0 ∷ drop (suc i) w) ≡ digits_from b most from (drop from w)
       here = rw (drop-cons w i 0 h) at so
 
-      pub digits_stop : (ltb (value_of (get_or w i 0)) b && leb (n * b + value_of (get_or w i 0)) most) ≡ false
+      digits_stop : (ltb (value_of (get_or w i 0)) b && leb (n * b + value_of (get_or w i 0)) most) ≡ false
           → Err i ≡ digits_from b most from (drop from w)
       digits_stop k = sym (scan_ends b most n i (get_or w i 0) (drop (suc i) w) k) ∙ here
 
-      pub digits_small : (ltb (value_of (get_or w i 0)) b && leb (n * b + value_of (get_or w i 0)) most) ≡ true
-          → n * b + value_of (get_or w i 0) ≤ most
-      digits_small k = scan_small b most n i (get_or w i 0) [] k
+      pub digits_past : most < n * b + value_of (get_or w i 0) → Err i ≡ digits_from b most from (drop from w)
+      digits_past k = digits_stop (simp (lt-leb (n * b + value_of (get_or w i 0)) most k, and_false))
 
-      pub digits_more : (ltb (value_of (get_or w i 0)) b && leb (n * b + value_of (get_or w i 0)) most) ≡ true
+      pub digits_other : b ≤ value_of (get_or w i 0) → Err i ≡ digits_from b most from (drop from w)
+      digits_other k = digits_stop (simp (le-ltb (value_of (get_or w i 0)) b k))
+
+      pub digits_more : value_of (get_or w i 0) < b → n * b + value_of (get_or w i 0) ≤ most
           → scan b most (n * b + value_of (get_or w i 0)) (i + 1) (drop (i + 1) w) ≡ digits_from b most from (drop from w)
-      digits_more k = rw add-one (sym (scan_goes b most n i (get_or w i 0) (drop (suc i) w) k) ∙ here)
+      digits_more j k = rw add-one (sym (scan_digit b most n i (get_or w i 0) (drop (suc i) w) j k) ∙ here)
 
 -- one digit more fits 64 bits
 module _ {n most b : ℕ} (h : n ≤ most) (m : Fits w32 most) (k : Fits w8 b) where

@@ -6,10 +6,13 @@ use mathlib.Core.Bool.{Bool, true, false, cond, ◌&&◌}
 use Prim.Native.Nat.{ℕ, ◌-◌, ◌≤◌, ◌<◌}
 use native.Mathlib.Omega.{arith}
 use lib.Dec.{leb}
-use borrow.Author.Tests.{le-leb, lt-leb, leb-true}
+use borrow.Author.Tests.{le-leb, lt-leb, leb-true, lt-ltb, le-ltb}
 use Rattle.laws.proofs.Order.{lt_or_le}
 use Rattle.laws.proofs.Bools.{and_false, and_right}
-use Rattle.numbers.specs.Reading.{value_of}
+use Rattle.std.proofs.Common.{Some, None}
+use Rattle.numbers.specs.Reading.{no_digit, value_of, digit_told}
+use Rattle.std.specs.Option.{unwrap_or}
+use Rattle.std.proofs.lemmas.Bool.Decides.{nat_tests}
 use Rattle.numbers.specs.Spelling.{Digit, figure, capital, small}
 
 module _ (c : ℕ) where
@@ -55,6 +58,22 @@ value_small c =
     small_if (leb 48 c && leb c 57) _ _ (λ e. omega (arith, up_to c 48 57 e))
     (small_if (leb 65 c && leb c 70) _ _ (λ e. omega (arith, up_to c 65 70 e))
     (small_if (leb 97 c && leb c 102) _ _ (λ e. omega (arith, up_to c 97 102 e)) (omega arith)))
+
+-- a digit as the code has it
+pub told_some : (v : ℕ) {d : ℕ} → Some d ≡ digit_told v → (d ≡ v) × (d < 16)
+told_some v {d} e =
+    ⊎_elim (λ (h : v < 16). let f : Some d ≡ Some v = e ∙ rw (lt-ltb v 16 h) in let g : d ≡ v = cc in (g, rw g h))
+    (λ h. let f : Some d ≡ None = e ∙ rw (le-ltb v 16 h) in let z : ⊥ = cc in absurd z)
+    (lt_or_le v 16)
+
+pub told_none : (v : ℕ) → None ≡ digit_told v → 16 ≤ v
+told_none v e =
+    ⊎_elim (λ (h : v < 16). let f : None ≡ Some v = e ∙ rw (lt-ltb v 16 h) in let z : ⊥ = cc in absurd z) (λ h. h) (lt_or_le v 16)
+
+-- what is told, or more than any digit, is the value
+pub told_value : (c : ℕ) → unwrap_or (digit_told (value_of c)) no_digit ≡ value_of c
+unfolding value_of
+told_value c = grind (arith, nat_tests)
 
 -- a digit has its value
 pub digit_value : {b c d : ℕ} → b ≤ 16 → Digit b c d → value_of c ≡ d

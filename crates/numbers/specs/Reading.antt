@@ -1,6 +1,7 @@
 -- How a number's word is read: its value, or the refusal with its place in the word.
 -- The place is that of the first byte that made it refuse, or the word's length if the word stopped too soon.
 use Rattle.std.specs.Prelude.{Bool, false, cond, ◌&&◌, List, [], ◌∷◌, ℕ, suc, ◌+◌, ◌*◌, ◌-◌, ◌≤◌, eqb, ltb, leb, pos as plus, take, drop, Option, None, Some, Result, Ok, Err}
+use Rattle.std.specs.Bool.{then_some}
 use Rattle.numbers.specs.Checksum.{checksum}
 use Rattle.numbers.specs.Spelling.{highest_address}
 use Rattle.units.specs.Units.{minus}
@@ -27,6 +28,10 @@ value_of c =
     cond (leb 48 c && leb c 57) (c - 48)
     (cond (leb 65 c && leb c 70) (c - 55)
     (cond (leb 97 c && leb c 102) (c - 87) no_digit))
+
+-- the same as the code has it: none where it is no digit
+abbrev pub digit_told : ℕ → Option ℕ
+digit_told d = then_some (ltb d 16) d
 
 -- digits of base b behind the number n, the first of them at place i; none may carry the value past `most`
 unfoldable pub scan : ℕ → ℕ → ℕ → ℕ → List ℕ → UnsignedRead

@@ -1,26 +1,24 @@
 // Reads digits: one digit, and an unsigned number from a place of its word on, or the place of the refusal.
 // The rules are in specs/Reading.antt.
-ghost use Rattle.std.specs.Prelude.{◌≡◌, drop};
-ghost use Rattle.numbers.specs.Reading.{value_of, digits_from, starts_hex, unsigned_from};
+ghost use Rattle.std.specs.Prelude.{◌≡◌, ◌≤◌, drop};
+ghost use Rattle.numbers.specs.Reading.{value_of, digit_told, digits_from, starts_hex, unsigned_from};
 
-// What a byte stands for that is no digit: more than any digit.
-pub const NO_DIGIT: u64 = 99;
-
-// What a digit stands for, in either case.
+// What a digit stands for, in either case; none where the byte is no digit.
 #[tactic(auto, using(std::proofs::lemmas::Bool::Decides::nat_tests), unfolding(crate::specs::Reading::value_of))]
-pub fn digit_value(c: u8) -> u64
-    ensures { result ≡ value_of c }
+pub fn digit_value(c: u8) -> Option<u64>
+    ensures { result ≡ digit_told (value_of c) }
 {
     match c {
-        b'0'..=b'9' => u64::from(c - b'0'),
-        b'A'..=b'F' => u64::from(c - b'A') + 10,
-        b'a'..=b'f' => u64::from(c - b'a') + 10,
-        _ => NO_DIGIT,
+        b'0'..=b'9' => Some(u64::from(c - b'0')),
+        b'A'..=b'F' => Some(u64::from(c - b'A') + 10),
+        b'a'..=b'f' => Some(u64::from(c - b'a') + 10),
+        _ => None,
     }
 }
 
 // One digit or more from a place on, none of which carries the value past `most`.
 fn digits(w: &[u8], from: usize, base: u8, most: u32) -> Result<u64, usize>
+    requires { base ≤ 16 }
     ensures { result ≡ digits_from base most from (drop from w.now) }
 {
     if w.len() <= from {
@@ -30,12 +28,9 @@ fn digits(w: &[u8], from: usize, base: u8, most: u32) -> Result<u64, usize>
     let m = most as u64;
     let mut n: u64 = 0;
     for i in from..w.len() {
-        let d = digit_value(w[i]);
-        let next = n * b + d;
-        if (d < b) & (next <= m) {
-            n = next;
-        } else {
-            return Err(i);
+        match digit_value(w[i]) {
+            Some(d) if d < b && n * b + d <= m => n = n * b + d,
+            _ => return Err(i),
         }
     }
     Ok(n)

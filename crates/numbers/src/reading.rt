@@ -52,14 +52,8 @@ pub fn read_number(w: &[u8]) -> Result<Number, usize>
 pub fn read_pair(h: u8, l: u8) -> Option<u8>
     ensures { result ≡ pairIn h l }
 {
-    let high = digit_value(h);
-    let low = digit_value(l);
-    if 16 <= high {
-        return None;
-    }
-    if 16 <= low {
-        return None;
-    }
+    let high = digit_value(h)?;
+    let low = digit_value(l)?;
     Some((high * 16 + low) as u8)
 }
 

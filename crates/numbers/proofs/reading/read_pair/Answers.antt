@@ -1,16 +1,17 @@
 -- `numbers::reading::read_pair` meets its contract: either byte may be no digit.
-use mathlib.Core.Path.{sym}
+use mathlib.Core.Path.{sym, ◌∙◌}
+use Rattle.numbers.proofs.Value.{told_some, told_none}
 use Rattle.numbers.proofs.Answers.{no_high, no_low, both}
 use Rattle.numbers.proofs.reading.read_pair.Goals as goal
 
-pub returns-then-high-ge16 : goal.returns-then-high-ge16
-returns-then-high-ge16 c = sym (no_high _ _ (rw c.digit_value-high.ensures at c.if-high-ge16.true))
+pub returns-in_err-high : goal.returns-in_err-high
+returns-in_err-high c = c.from_residual.ensures ∙ sym (no_high _ _ (told_none _ c.in_err-high.ensures))
 
-pub returns-then-low-ge16 : goal.returns-then-low-ge16
-returns-then-low-ge16 c = sym (no_low _ _ (rw c.digit_value-low.ensures at c.if-low-ge16.true))
+pub returns-in_err-low : goal.returns-in_err-low
+returns-in_err-low c = c.from_residual-in_err-low.ensures ∙ sym (no_low _ _ (told_none _ c.in_err-low.ensures))
 
 pub returns : goal.returns
 returns c =
-    let h = c.digit_value-high.ensures in
-    let l = c.digit_value-low.ensures in
-    rw (h, l) (sym (both _ _ (rw h at c.if-high-ge16.false) (rw l at c.if-low-ge16.false)))
+    let h = told_some _ c.in_ok-high.ensures in
+    let l = told_some _ c.in_ok-low.ensures in
+    rw (h.0, l.0) (sym (both _ _ (rw h.0 at h.1) (rw l.0 at l.1)))
