@@ -31,6 +31,10 @@ field l i n = take n (drop i l)
 abbrev pub stands : List ℕ → ℕ → List ℕ → Bool
 stands l i w = same (field l i (length w)) w
 
+-- a digit where it is a decimal one
+abbrev pub decimal : ℕ → Option ℕ
+decimal d = then_some (ltb d 10) d
+
 -- the number that two decimal digits say
 abbrev pub two_of : ℕ → ℕ → Option ℕ
 two_of tens ones = then_some (ltb tens 10 && ltb ones 10) (tens * 10 + ones)

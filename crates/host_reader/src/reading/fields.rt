@@ -4,7 +4,7 @@ ghost use Rattle.std.specs.Prelude.{◌≡◌, ◌==◌, take, drop, get_or, opt
 ghost use Rattle.numbers.specs.Reading.{value_of};
 ghost use Rattle.words.specs.Cutting.{cut};
 ghost use Rattle.words.specs.Find.{found};
-ghost use Rattle.host_reader.specs.Reading.{stands, two_of, kind_of, front_in, state_in};
+ghost use Rattle.host_reader.specs.Reading.{stands, decimal, kind_of, front_in, state_in};
 
 use crate::{Front, Kind, State};
 use words::{find_word, same_bytes};
@@ -38,21 +38,14 @@ pub fn stands_at(s: &[u8], at: usize, w: &[u8]) -> bool
     same_bytes(field(s, at, w.len()), w)
 }
 
-// What the digit at a place stands for.
-fn digit_at(s: &[u8], at: usize) -> u64
-    ensures { result ≡ value_of (get_or s.now at 0) }
+// The decimal digit at a place.
+#[tactic(auto, using(numbers::proofs::Value::told_some, numbers::proofs::Value::told_none))]
+fn digit_at(s: &[u8], at: usize) -> Option<u64>
+    ensures { result ≡ decimal (value_of (get_or s.now at 0)) }
 {
-    numbers::digits::digit_value(byte_at(s, at))
-}
-
-// The number that two digits say.
-fn two_of(tens: u64, ones: u64) -> Option<u64>
-    ensures { result ≡ two_of tens ones }
-{
-    if (tens < 10) & (ones < 10) {
-        Some(tens * 10 + ones)
-    } else {
-        None
+    match numbers::digits::digit_value(byte_at(s, at)) {
+        Some(digit) if digit < 10 => Some(digit),
+        Some(_) | None => None,
     }
 }
 
@@ -81,10 +74,11 @@ pub(crate) fn read_front(line: &[u8]) -> Option<Front>
     ensures { result ≡ front_in line.now }
 {
     let kind = kind_of(byte_at(line, 0))?;
-    let address = two_of(digit_at(line, 1), digit_at(line, 2))?;
-    let parted = stands_at(line, 3, b" ");
-    let axis = digit_at(line, 4);
-    ((1 <= address) & parted & (axis < 10)).then_some(Front {
+    let tens = digit_at(line, 1)?;
+    let ones = digit_at(line, 2)?;
+    let axis = digit_at(line, 4)?;
+    let address = tens * 10 + ones;
+    ((1 <= address) & stands_at(line, 3, b" ")).then_some(Front {
         kind,
         address,
         axis,
