@@ -8,11 +8,10 @@ use Rattle.command.specs.declared.AxisSetting.TheVariants.{Pos, LimitMin, LimitM
 use Rattle.command.specs.declared.DeviceSetting.{DeviceSetting}
 use Rattle.command.specs.declared.DeviceSetting.TheVariants.{CommAddress, CommAlert, CommChecksum, SystemAccess, DeviceId, SystemAxisCount}
 use Rattle.command.specs.declared.Setting.{Setting}
+use Rattle.command.specs.declared.access.Writing.{Writing}
+use Rattle.command.specs.declared.access.Writing.TheVariants.{Always, AtRest, Never}
+use Rattle.command.specs.declared.access.Access.{Access}
 use Rattle.command.specs.declared.Setting.TheVariants.{OfAxis, OfDevice}
-
--- when a setting may be written: always, with its axis at rest, or never ("read only")
-pub data Writing : Type 0 where
-  Always AtRest Never : Writing
 
 pub record About : Type 0 where
   pub name : List ℕ
@@ -50,6 +49,10 @@ about_device SystemAxisCount = row "system.axiscount" 1 1 Never
 abbrev pub about : Setting → About
 about (OfAxis s) = about_axis s
 about (OfDevice s) = about_device s
+
+-- what the code keeps of a setting: all but its name
+abbrev pub access_of : About → Access
+access_of a = record { get = a.get; set = a.set; writing = a.writing }
 
 -- every setting, in the table's order
 unfoldable pub axis_settings : List AxisSetting

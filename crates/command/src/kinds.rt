@@ -2,7 +2,6 @@
 // specs/Commands.antt has the same table, with the words of each row.
 ghost use Rattle.std.specs.Prelude.{◌≡◌};
 ghost use Rattle.command.specs.Commands.{kind_at, demands_by, demands_of, is_words, is_info};
-ghost use Rattle.command.specs.Sums.{use_at, data_at, kind_of};
 
 use crate::forms::Form;
 use crate::{Command, Setting};
@@ -34,26 +33,14 @@ impl Data {
     pub fn words(self) -> bool
         ensures { result ≡ is_words self }
     {
-        match self {
-            Data::Nought
-            | Data::Values
-            | Data::Stored
-            | Data::Position
-            | Data::Active
-            | Data::Parked
-            | Data::Info => false,
-            Data::Words => true,
-        }
+        matches!(self, Data::Words)
     }
 
     // Do info lines stand behind the reply?
     pub fn informs(self) -> bool
         ensures { result ≡ is_info self }
     {
-        match self {
-            Data::Info => true,
-            _ => false,
-        }
+        matches!(self, Data::Info)
     }
 }
 
@@ -79,36 +66,27 @@ pub struct Demands {
     pub reply: Data,
 }
 
-// What is said of a row, as numbers to add: the first seven are the data of its reply.
-const VALUES: u8 = 1;
+// A row of which nothing is said; one that only an unparked device takes; one that only shows.
+const PLAIN: Kind = Kind {
+    uses: Use::Apart,
+    unparked: false,
+    rest: false,
+    shows: false,
+    reply: Data::Nought,
+};
 
-const STORED: u8 = 2;
+const UNPARKED: Kind = Kind {
+    unparked: true,
+    ..PLAIN
+};
 
-const POSITION: u8 = 3;
+const SHOWS: Kind = Kind {
+    shows: true,
+    ..PLAIN
+};
 
-const ACTIVE: u8 = 4;
-
-const PARKED: u8 = 5;
-
-const WORDS: u8 = 6;
-
-const INFO: u8 = 7;
-
-const SHOWS: u8 = 8;
-
-const REST: u8 = 16;
-
-const UNPARKED: u8 = 32;
-
-const GETS: u8 = 64;
-
-const SETS: u8 = 128;
-
-// Nothing of all this.
-const PLAIN: u8 = 0;
-
-// A byte a row: the proof of a function that reads a table of structs grows with each of their fields.
-const KINDS: [u8; 22] = [
+// The table, a row a kind.
+const KINDS: [Kind; 22] = [
     // (none)
     SHOWS,
     // home
@@ -130,101 +108,80 @@ const KINDS: [u8; 22] = [
     // move stored N
     UNPARKED,
     // get SETTING
-    GETS + SHOWS + VALUES,
+    Kind {
+        uses: Use::Gets,
+        reply: Data::Values,
+        ..SHOWS
+    },
     // set SETTING N
-    SETS,
+    Kind {
+        uses: Use::Sets,
+        ..PLAIN
+    },
     // tools storepos N
-    STORED,
+    Kind {
+        reply: Data::Stored,
+        ..PLAIN
+    },
     // tools storepos N P
     PLAIN,
     // tools storepos N current
-    POSITION,
+    Kind {
+        reply: Data::Position,
+        ..PLAIN
+    },
     // warnings
-    SHOWS + ACTIVE,
+    Kind {
+        reply: Data::Active,
+        ..SHOWS
+    },
     // warnings clear
-    ACTIVE,
+    Kind {
+        reply: Data::Active,
+        ..PLAIN
+    },
     // tools parking state
-    SHOWS + PARKED,
+    Kind {
+        reply: Data::Parked,
+        ..SHOWS
+    },
     // tools parking park
-    REST,
+    Kind {
+        rest: true,
+        ..PLAIN
+    },
     // tools parking unpark
     PLAIN,
     // tools echo WORDS
-    SHOWS + WORDS,
+    Kind {
+        reply: Data::Words,
+        ..SHOWS
+    },
     // help commands
-    SHOWS + INFO,
+    Kind {
+        reply: Data::Info,
+        ..SHOWS
+    },
 ];
 
-impl Use {
-    fn of(k: u8) -> Use
-        ensures { result ≡ use_at k }
-    {
-        match k {
-            0 => Use::Apart,
-            1 => Use::Gets,
-            _ => Use::Sets,
-        }
-    }
-}
-
-impl Data {
-    fn of(k: u8) -> Data
-        ensures { result ≡ data_at k }
-    {
-        match k {
-            0 => Data::Nought,
-            1 => Data::Values,
-            2 => Data::Stored,
-            3 => Data::Position,
-            4 => Data::Active,
-            5 => Data::Parked,
-            6 => Data::Words,
-            _ => Data::Info,
-        }
-    }
-}
-
-impl Kind {
-    fn of(sum: u8) -> Kind
-        ensures { result ≡ kind_of sum }
-    {
-        let uses = Use::of(sum / 64);
-        let reply = Data::of(sum % 8);
-        Kind {
-            uses,
-            unparked: sum / 32 % 2 == 1,
-            rest: sum / 16 % 2 == 1,
-            shows: sum / 8 % 2 == 1,
-            reply,
-        }
-    }
-}
-
-// The number of the row at a place; beyond the table that of the first.
-fn sum_at(row: usize) -> u8
-    ensures { kind_of result ≡ kind_at row }
-{
-    if row < 22 { KINDS[row] } else { SHOWS }
-}
-
+// The row at a place; beyond the table the first.
 fn kind_at(row: usize) -> Kind
     ensures { result ≡ kind_at row }
 {
-    Kind::of(sum_at(row))
+    if row < 22 { KINDS[row] } else { KINDS[0] }
 }
 
 impl Kind {
     fn demands(self, barred: bool, access: u8, rest: bool) -> Demands
         ensures { result ≡ demands_by self barred access rest }
     {
-        let reply = self.reply;
         Demands {
             barred,
             access,
             unparked: self.unparked,
             rest,
             shows: self.shows,
-            reply,
+            reply: self.reply,
         }
     }
 }
@@ -236,8 +193,7 @@ impl Form {
     {
         let k = kind_at(self.row);
         let s = self.setting;
-        let uses = k.uses;
-        match uses {
+        match k.uses {
             Use::Apart => k.demands(false, 1, k.rest),
             Use::Gets => k.demands(false, s.get_access(), k.rest),
             Use::Sets => k.demands(s.read_only(), s.set_access(), s.only_at_rest()),

@@ -1,6 +1,0 @@
--- By the rule of the setting, for every setting of the table.
-use Rattle.command.proofs.Rules.{says}
-use Rattle.command.proofs.Setting.get_access.Goals as goal
-
-pub returns : goal.returns
-returns c = rw c.rule.ensures (says c.args.self).0
