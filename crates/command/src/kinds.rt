@@ -85,8 +85,8 @@ const SHOWS: Kind = Kind {
     ..PLAIN
 };
 
-// The table, a row a kind.
-const KINDS: [Kind; 22] = [
+// The table, a row a kind. It is a static, since a const would be copied at each look-up.
+static KINDS: [Kind; 22] = [
     // (none)
     SHOWS,
     // home
