@@ -44,28 +44,6 @@ module _ (c : ℕ) where
   unfolding no_colon
   other_yes h = rw (ne_eqb c 58 h)
 
--- ---- the footer
-pub footer_1 : (f : List ℕ) → length f ≡ 1 → is_end (get_or f 0 0) ≡ is_footer f
-unfolding is_footer
-footer_1 [] h = absurd (omega arith)
-footer_1 (c ∷ []) h = refl
-footer_1 (c ∷ d ∷ f) h = absurd (omega arith)
-
-pub footer_not : (f : List ℕ) → (length f ≡ 1 → ⊥) → (length f ≡ 2 → ⊥) → is_footer f ≡ false
-unfolding is_footer
-footer_not [] h k = refl
-footer_not (c ∷ []) h k = absurd (h refl)
-footer_not (c ∷ d ∷ []) h k = absurd (k refl)
-footer_not (c ∷ d ∷ e ∷ f) h k = refl
-
-pub footer_2 : (f : List ℕ) (b : Bool) → length f ≡ 2 → is_end (get_or f 0 0) ≡ b → is_footer f ≡ cond b (is_end (get_or f 1 0)) false
-unfolding is_footer
-footer_2 [] b h e = absurd (omega arith)
-footer_2 (c ∷ []) b h e = absurd (omega arith)
-footer_2 (c ∷ d ∷ []) true h e = rw e
-footer_2 (c ∷ d ∷ []) false h e = rw e
-footer_2 (c ∷ d ∷ x ∷ f) b h e = absurd (omega arith)
-
 -- ---- the checksum
 sum_other : (c : ℕ) (b r : List ℕ) → (length r ≡ 0 → ⊥) → (length r ≡ 3 → ⊥) → checked c b r ≡ Err BadSum
 unfolding checked

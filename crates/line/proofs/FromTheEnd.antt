@@ -28,24 +28,12 @@ use Rattle.line.proofs.Ends.{body_is, is_line, Split, split, no_end, slash_print
 use Rattle.line.proofs.Sums.{colon_here}
 
 -- ---- the footer
--- a line that begins with `/` is not empty, and where its last byte is an end, it has another one
-pub slash_some : (l : List ℕ) → get_or l 0 0 ≡ 47 → 0 < length l
-slash_some [] h = absurd (omega arith)
-slash_some (x ∷ l) h = omega arith
-
-pub end_behind : (l : List ℕ) {b : Bool} → get_or l 0 0 ≡ 47 → b ≡ is_end (get_or l (length l - 1) 0) → b ≡ true → 1 < length l
-end_behind [] h e q = absurd (omega arith)
-end_behind (x ∷ []) h e q = clash (sym e ∙ q) (rw h (no_end 47 slash_printable))
-end_behind (x ∷ y ∷ l) h e q = omega arith
-
-module _ (l : List ℕ) {a : Bool} (last : a ≡ is_end (get_or l (length l - 1) 0)) where
-  pub no_footer : a ≡ false → 0 ≡ footer_size l
-  unfolding footer_size
-  no_footer q = rw (sym last ∙ q)
-
-  pub some_footer : {b : Bool} (n : ℕ) → a ≡ true → b ≡ is_end (get_or l (length l - 2) 0) → n ≡ cond b 2 1 → n ≡ footer_size l
-  unfolding footer_size
-  some_footer n q e h = rw (sym last ∙ q, ← e) h
+-- a line of a `/` alone has none
+pub slash_alone : (l : List ℕ) → length l < 2 → get_or l 0 0 ≡ 47 → footer_size l ≡ 0
+unfolding footer_size
+slash_alone [] l h = absurd (omega arith)
+slash_alone (x ∷ []) l h = rw (h, no_end 47 slash_printable)
+slash_alone (x ∷ y ∷ l) k h = absurd (omega arith)
 
 one_or_two : (a b : Bool) → cond a (cond b 2 1) 0 ≤ 2
 one_or_two true true = omega arith

@@ -14,82 +14,57 @@ use laws::Refusal;
 pub fn printable_len(s: &[u8]) -> usize
     ensures { result ≡ span printable s.now }
 {
-    let mut i: usize = 0;
-    while i < s.len() {
-        if s[i] < 32 {
-            return i;
-        }
-        if 126 < s[i] {
-            return i;
-        }
-        i += 1;
-    }
-    i
+    s.iter().take_while(|c| 32 <= **c && **c <= 126).count()
 }
 
 // Are all bytes such as a content may have: no forbidden one, and no colon?
 fn all_plain(s: &[u8]) -> bool
     ensures { result ≡ all plain s.now }
 {
-    let mut ok = true;
-    let mut i: usize = 0;
-    while i < s.len() {
-        ok = ok & ((32 <= s[i]) & (s[i] <= 126) & (s[i] != b':'));
-        i += 1;
-    }
-    ok
+    s.iter().all(|c| 32 <= *c && *c <= 126 && *c != b':')
 }
 
 // Is the byte CR or LF?
+#[tactic(auto, using(std::proofs::lemmas::Bool::Decides::nat_tests), unfolding(crate::specs::Reading::is_end))]
 fn is_end(c: u8) -> bool
     ensures { result ≡ is_end c }
 {
-    if c == 13 {
-        return true;
-    }
-    c == 10
+    matches!(c, b'\r' | b'\n')
 }
 
 // Are the bytes a footer?
+#[tactic(auto, unfolding(crate::specs::Reading::is_footer))]
 pub fn is_footer(f: &[u8]) -> bool
     ensures { result ≡ is_footer f.now }
 {
-    if f.len() == 1 {
-        return is_end(f[0]);
+    match f {
+        [c] => is_end(*c),
+        [c, d] => is_end(*c) && is_end(*d),
+        _ => false,
     }
-    if f.len() != 2 {
-        return false;
-    }
-    if is_end(f[0]) {
-        return is_end(f[1]);
-    }
-    false
 }
 
 // How many bytes the footer has, at the end of a line that begins with `/`; none where the last byte is neither CR nor LF.
+#[tactic(auto, using(crate::proofs::FromTheEnd::slash_alone), unfolding(crate::specs::Refusals::footer_size))]
 fn footer_size(s: &[u8]) -> usize
     requires { get_or s.now 0 0 ≡ slash }
     ensures { result ≡ footer_size s.now }
 {
-    if is_end(s[s.len() - 1]) {
-        if is_end(s[s.len() - 2]) {
-            return 2;
-        }
-        return 1;
+    match s {
+        [.., before, last] if is_end(*last) => if is_end(*before) { 2 } else { 1 },
+        _ => 0,
     }
-    0
 }
 
 // How many bytes stand before the checksum, if a colon stands third from the end; else all.
+#[tactic(auto, using(std::proofs::lemmas::Bool::Decides::nat_tests), unfolding(crate::specs::FromTheEnd::content_length))]
 fn content_len(b: &[u8]) -> usize
     ensures { result ≡ content_length b.now }
 {
-    if 3 <= b.len() {
-        if b[b.len() - 3] == b':' {
-            return b.len() - 3;
-        }
+    match b {
+        [before @ .., b':', _, _] => before.len(),
+        _ => b.len(),
     }
-    b.len()
 }
 
 // The refusal of bytes with a colon out of place or a wrong checksum: a forbidden byte among them is told first.
