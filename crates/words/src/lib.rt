@@ -14,25 +14,28 @@ pub struct Word {
     pub end: usize,
 }
 
-// The bytes from at on.
-fn rest(s: &[u8], at: usize) -> &[u8]
-    ensures { result.now ≡ drop at s.now }
-{
-    s.get(at..).unwrap_or(&[])
-}
-
 // The first place from at on that has no space.
 pub fn start_of(s: &[u8], at: usize) -> usize
     ensures { result ≡ start_of s.now at }
 {
-    at + rest(s, at).iter().take_while(|byte| **byte == b' ').count()
+    for start in at..s.len() {
+        if s[start] != b' ' {
+            return start;
+        }
+    }
+    at.max(s.len())
 }
 
 // The first place from at on that has a space, or the end.
 fn word_end(s: &[u8], at: usize) -> usize
     ensures { result ≡ end_of s.now at }
 {
-    at + rest(s, at).iter().take_while(|byte| **byte != b' ').count()
+    for end in at..s.len() {
+        if s[end] == b' ' {
+            return end;
+        }
+    }
+    at.max(s.len())
 }
 
 // The first word from at on.

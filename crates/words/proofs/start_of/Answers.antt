@@ -1,20 +1,20 @@
--- As many bytes from the place on as the library's `take_while` counts.
-use mathlib.Core.Path.{ap, ◌∙◌}
-use Prim.Native.Nat.{◌+◌}
-use Rattle.std.proofs.Common.{rules, tests}
-use Rattle.std.proofs.lemmas.Iterator.{YieldsList-from_slice}
-use Rattle.std.proofs.lemmas.Iterator.Consumers.{count_from_yields_List}
-use Rattle.std.proofs.lemmas.Iterator.Search.{YieldsList-from_take_while}
-use Rattle.std.proofs.lemmas.List.Folds.{length-prefix_len}
-use lib.ListN.{drop}
+-- Invariant: what is passed from start on, behind start, ends where what is passed from at on ends.
+use mathlib.Core.Path.{◌≡◌, sym, ◌∙◌}
+use native.Mathlib.Omega.{arith}
 use Rattle.words.specs.Cutting.{is_space}
-use Rattle.laws.proofs.Span.{span_is}
+use Rattle.laws.proofs.Span.{passed, stopped, ended}
+use Rattle.words.proofs.Space.{space_yes, space_not}
 use Rattle.words.proofs.start_of.Goals as goal
 
+pub returns-then-s-start-ne32 : goal.returns-then-s-start-ne32
+returns-then-s-start-ne32 c =
+    sym (stopped is_space _ _ c.loop-start-test.true (space_not _ c.if-s-start-ne32.true)) ∙ c.loop-start.invariant.1
+
+pub loop-start-preserved : goal.loop-start-preserved
+loop-start-preserved c =
+    (omega arith, passed is_space _ _ c.loop-start-test.true (space_yes _ c.if-s-start-ne32.false) ∙ c.loop-start.invariant.1)
+
 pub returns : goal.returns
-unfolding is_space
 returns c =
-    let s = drop c.args.at c.args.s.now in
-    ap (λ n. c.args.at + n)
-    (count_from_yields_List c.take_while.result _ c.count.ensures.ran (YieldsList-from_take_while _ is_space (YieldsList-from_slice s (cc)) c.take_while.ensures.closure c.take_while.ensures.done (λ x b q k. search (rules, tests)))
-    ∙ length-prefix_len is_space s ∙ span_is is_space s)
+    let at_end : c.max.result ≡ c.loop-start.start = omega arith in
+    at_end ∙ sym (ended is_space _ _ (omega arith)) ∙ c.loop-start.invariant.1
