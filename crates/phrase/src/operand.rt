@@ -39,6 +39,7 @@ pub(crate) fn one_number(s: &[u8], at: usize, k: Numbered) -> Result<Worded, Ref
 }
 
 // The setting of the device that a word names.
+#[tactic(auto, unfolding(words::specs::Find::meaning_of, laws::specs::Text::text, command::specs::Settings::device_settings, command::specs::Settings::name_of))]
 fn read_device_setting(w: &[u8]) -> Option<Setting>
     ensures { result ≡ meaning_of None w.now device_names }
 {
@@ -64,6 +65,7 @@ fn read_device_setting(w: &[u8]) -> Option<Setting>
 }
 
 // The setting that a word names.
+#[tactic(auto, unfolding(crate::specs::Reading::read_setting, words::specs::Find::meaning_of, laws::specs::Text::text, command::specs::Settings::axis_settings, command::specs::Settings::device_settings, command::specs::Settings::name_of))]
 pub(crate) fn read_setting(w: &[u8]) -> Option<Setting>
     ensures { result ≡ read_setting w.now }
 {

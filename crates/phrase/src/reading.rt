@@ -42,6 +42,7 @@ fn read_help(s: &[u8], at: usize) -> Result<Worded, RefusedAt>
 }
 
 // Behind the first word w.
+#[tactic(auto, unfolding(words::specs::Find::meaning_of, laws::specs::Text::text))]
 fn first_of(s: &[u8], at: usize, w: &[u8]) -> Result<Worded, RefusedAt>
     ensures { result ≡ meaning_of unknown w.now (firsts (words_at s.now at)) }
 {

@@ -57,6 +57,7 @@ fn read_storepos(s: &[u8], at: usize) -> Result<Worded, RefusedAt>
 }
 
 // Behind `tools parking` and the word w.
+#[tactic(auto, unfolding(words::specs::Find::meaning_of, laws::specs::Text::text))]
 fn parking_of(s: &[u8], at: usize, w: &[u8]) -> Result<Worded, RefusedAt>
     ensures { result ≡ meaning_of misspelt w.now (parkings (words_at s.now at)) }
 {
@@ -81,6 +82,7 @@ fn read_parking(s: &[u8], at: usize) -> Result<Worded, RefusedAt>
 }
 
 // Behind `tools` and the word w.
+#[tactic(auto, unfolding(words::specs::Find::meaning_of, laws::specs::Text::text))]
 fn tool_of(s: &[u8], at: usize, w: &[u8]) -> Result<Worded, RefusedAt>
     ensures { result ≡ meaning_of unknown w.now (tools at (words_at s.now at)) }
 {

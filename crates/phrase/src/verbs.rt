@@ -13,6 +13,7 @@ use laws::RefusedAt;
 use words::{Word, same_bytes};
 
 // Behind `move` and the word w.
+#[tactic(auto, unfolding(words::specs::Find::meaning_of, laws::specs::Text::text))]
 fn move_of(s: &[u8], at: usize, w: &[u8]) -> Result<Worded, RefusedAt>
     ensures { result ≡ meaning_of unknown w.now (moves (words_at s.now at)) }
 {
