@@ -8,7 +8,7 @@ use mathlib.Core.Bool.{Bool, true, false, cond, not, ◌&&◌}
 use mathlib.Core.List.{List, [], ◌∷◌, ◌++◌}
 use Prim.Native.Nat.{ℕ, zero, suc, ◌+◌, ◌-◌, ◌≤◌, ◌<◌}
 use native.Mathlib.Omega.{arith}
-use lib.ListN.{length, get_or, take, drop, length-take, take-append-drop}
+use lib.ListN.{length, get_or, take, drop, length-take, length-drop, take-append-drop}
 use lib.Seq.{take-append_seam, drop-append_seam, take-take, take_all, drop-cons}
 use borrow.Author.Tests.{le-leb, lt-leb, eq-eqb, ne_eqb}
 use Rattle.laws.specs.Lists.{span, fold, all}
@@ -104,11 +104,12 @@ module _ (l : List ℕ) (fits : length l ≤ 80) (first : get_or l 0 0 ≡ 47) w
     body-frame false h e = rw e (from_end true (body-test h ∙ ap not e))
 
     -- of the part that the code hands over
-    pub footer_some : {r : Frame} → (f ≡ 0 → ⊥) → r ≡ body_read (take (length l - f - 1) (drop 1 l)) → r ≡ frame_of l
+    pub footer_some : {r : Frame} → (f ≡ 0 → ⊥)
+        → r ≡ body_read (take (length (take (length l - 1) (drop 1 l)) - f) (take (length l - 1) (drop 1 l))) → r ≡ frame_of l
     unfolding body
     footer_some h q =
-        let n : length l - f - 1 ≡ length l - 1 - footer_size l = omega arith in
-        q ∙ ap (λ (k : ℕ). body_read (take k (drop 1 l))) n ∙ sym (body-frame _ h refl)
+        let n : length (drop 1 l) - f ≡ length l - 1 - footer_size l = omega (arith, length-drop 1 l) in
+        (rw (rest 1 l) at q) ∙ ap (λ (k : ℕ). body_read (take k (drop 1 l))) n ∙ sym (body-frame _ h refl)
 
 -- ---- the body
 -- bytes that a content may have are those that pass both tests

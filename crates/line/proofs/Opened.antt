@@ -1,6 +1,7 @@
 -- A line that is read in two steps, its opening and what stands behind it, is read as specs/Reading.antt says.
 -- Assumes nothing.
 use Rattle.std.specs.Prelude.{Err, Ok, Result}
+use Rattle.std.specs.Result.{MatchResult, IsErrAnd}
 use mathlib.Core.Path.{◌≡◌, refl, sym, ap, ◌∙◌}
 use mathlib.Core.Logic.{⊎_elim}
 use mathlib.Core.Bool.{Bool, true, false}
@@ -63,9 +64,15 @@ address_places s {w} q size {u} e = go u e
         record { fits = omega (arith, inside, long, word_whole s 1 q, word_within s 1 q, size.fits) }
 
 module _ (l : List ℕ) {f : Frame} (is : f ≡ frame_of l) where
-  pub open_silent : (n : Refusal) → f ≡ Err n → Err (refusal_at n NOWHERE) ≡ open_line l
+  -- m is what is refused, with no place
+  pub open_silent : {m : Result ℕ RefusedAt} (e : RefusedAt) → m ≡ Err e
+      → MatchResult f (λ n. m ≡ Ok n) (λ n. IsErrAnd m (λ r. r ≡ refusal_at n NOWHERE)) → Err e ≡ open_line l
   unfolding open_line
-  open_silent n h = rw (sym is ∙ h)
+  open_silent {m} e h cases = rw (← is) (go f (rw h at cases))
+    where
+      go : (f : Frame) → MatchResult f (λ n. ◌≡◌ {A = Result ℕ RefusedAt} (Err e) (Ok n)) (λ n. IsErrAnd {T = ℕ} (Err e) (λ r. r ≡ refusal_at n NOWHERE)) → Err e ≡ opened l f
+      go (Ok n) k = let z : ◌≡◌ {A = ℕ} 0 1 = cc in absurd (omega arith)
+      go (Err n) k = ap Err k
 
   pub open_content : (n : ℕ) {o : Result Opening RefusedAt} → f ≡ Ok n → o ≡ open_words (take (n + 1) l) → o ≡ open_line l
   unfolding open_line

@@ -5,12 +5,12 @@ use mathlib.Core.Path.{◌≡◌, refl, sym, ap, ◌∙◌}
 use mathlib.Core.Logic.{⊎_elim}
 use mathlib.Core.Bool.{true, false}
 use mathlib.Core.List.{List, [], ◌∷◌}
-use Prim.Native.Nat.{ℕ, zero, suc, ◌+◌, ◌-◌, ◌≤◌, ◌<◌, min}
+use Prim.Native.Nat.{ℕ, zero, suc, ◌+◌, ◌-◌, ◌≤◌, ◌<◌}
 use native.Mathlib.Numerals.{add-one}
 use native.Mathlib.Omega.{arith}
 use lib.Dec.{ltb}
 use lib.ListN.{length, get_or, take, drop, length-drop, length-take}
-use lib.Seq.{drop-cons, take_all}
+use lib.Seq.{drop-cons}
 use borrow.Author.Tests.{eq-eqb, ne_eqb, lt-ltb, le-ltb}
 use Rattle.laws.specs.Lists.{span}
 use Rattle.laws.proofs.Order.{lt_or_le, eq_or_ne}
@@ -168,9 +168,3 @@ pub take_whole : (n : ℕ) (l : List ℕ) → take (length (take n l)) l ≡ tak
 take_whole zero l = refl
 take_whole (suc n) [] = refl
 take_whole (suc n) (c ∷ l) = ap (λ (x : List ℕ). c ∷ x) (take_whole n l)
-
-pub up_to : (end e : ℕ) (l : List ℕ) → e ≡ min end (length l) → take e l ≡ take end l
-up_to end e l q =
-    ⊎_elim (λ h. let k : e ≡ length l = omega arith in rw (k, take_all (length l) l (omega arith), take_all end l (omega arith)))
-    (λ h. let k : e ≡ end = omega arith in rw k)
-    (lt_or_le (length l) end)

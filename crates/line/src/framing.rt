@@ -95,21 +95,18 @@ fn read_body(b: &[u8]) -> Result<usize, Refusal>
 }
 
 // The frame of a line.
+#[tactic(auto, using(crate::proofs::Frames::too_long_lem, crate::proofs::Frames::empty, crate::proofs::Frames::no_slash, crate::proofs::FromTheEnd::footer_fits, crate::proofs::FromTheEnd::footer_none, crate::proofs::FromTheEnd::footer_some))]
 pub(crate) fn read_frame(s: &[u8]) -> Result<usize, Refusal>
     ensures { result ≡ frame_of s.now }
 {
     if LONGEST_LINE < s.len() {
         return Err(Refusal::TooLong);
     }
-    if s.len() == 0 {
+    let [b'/', rest @ ..] = s else {
         return Err(Refusal::NotLine);
+    };
+    match footer_size(s) {
+        0 => Err(Refusal::NotLine),
+        f => read_body(&rest[..rest.len() - f]),
     }
-    if s[0] != b'/' {
-        return Err(Refusal::NotLine);
-    }
-    let f = footer_size(s);
-    if f == 0 {
-        return Err(Refusal::NotLine);
-    }
-    read_body(&s[1..s.len() - f])
 }

@@ -12,9 +12,8 @@ ghost use Rattle.line.specs.Opening.{digit_at, AddressPlaces, addressee, open_wo
 
 use crate::framing::read_frame;
 use crate::{Addressed, Opening};
-use laws::{NOWHERE, Refusal, RefusedAt};
+use laws::{Refusal, RefusedAt};
 use numbers::digits::digit_value;
-use units::lesser;
 
 // Is it a digit or a sign?
 #[tactic(auto, using(std::proofs::lemmas::Bool::Decides::nat_tests, numbers::proofs::Value::told_some, numbers::proofs::Value::told_none), unfolding(crate::specs::Reading::begins_number))]
@@ -29,14 +28,12 @@ fn begins_number(c: u8) -> bool
 }
 
 // Does the first word from at on begin as a number? Its first byte tells.
+#[tactic(auto, using(crate::proofs::Steps::number_first, crate::proofs::Steps::number_none))]
 fn number_at(s: &[u8], at: usize) -> bool
     ensures { result ≡ starts_number (head_word (bytes_of (words_at s.now at))) }
 {
-    let i = words::start_of(s, at);
-    if i < s.len() {
-        return begins_number(s[i]);
-    }
-    false
+    s.get(words::start_of(s, at))
+        .is_some_and(|c| begins_number(*c))
 }
 
 // The digit that a word from i on is, if it has one byte, or none. Two bytes tell.
@@ -111,21 +108,15 @@ fn open_words(s: &[u8]) -> Result<Opening, RefusedAt>
 pub fn open_line(s: &[u8]) -> Result<Opening, RefusedAt>
     ensures { result ≡ open_line s.now }
 {
-    match read_frame(s) {
-        Err(n) => Err(RefusedAt {
-            refusal: n,
-            place: NOWHERE,
-        }),
-        Ok(c) => open_words(&s[..c + 1]),
-    }
+    let c = read_frame(s).map_err(Refusal::nowhere)?;
+    open_words(&s[..c + 1])
 }
 
 // The line up to a place, or all of it.
 fn up_to(s: &[u8], end: usize) -> &[u8]
     ensures { result.now ≡ take end s.now }
 {
-    let e = lesser(end, s.len());
-    &s[..e]
+    s.get(..end).unwrap_or(s)
 }
 
 // A line, from its opening on.
