@@ -2,8 +2,8 @@
 // which ask first whether the record is good and whether the command is refused.
 ghost use Rattle.std.specs.Prelude.{◌≡◌};
 ghost use Rattle.axis.specs.Commands.{axis_after};
-ghost use Rattle.device.specs.Record.{put as put_of, with_parked, on_axes};
-ghost use Rattle.rules.specs.Effects.{device_after, next as next_of};
+ghost use Rattle.device.specs.Record.{put, with_parked, on_axes};
+ghost use Rattle.rules.specs.Effects.{device_after, next};
 
 use axis::commands::unparks;
 use command::{AxisCommand, Command, DeviceCommand, DeviceSetting};
@@ -13,66 +13,49 @@ use units::Number;
 
 // The device with one of its settings set to n; what is read only stays.
 fn put(mut d: Device, s: DeviceSetting, n: Number) -> Device
-    ensures { result ≡ put_of s n d }
+    ensures { result ≡ put s n d }
 {
-    let mut comm = d.comm;
     match s {
-        DeviceSetting::CommAddress => {
-            comm.address = n;
-            d.comm = comm;
-        }
-        DeviceSetting::CommAlert => {
-            comm.alert = n;
-            d.comm = comm;
-        }
-        DeviceSetting::CommChecksum => {
-            comm.checksum = n;
-            d.comm = comm;
-        }
-        DeviceSetting::SystemAccess => {
-            d.access = n;
-        }
-        DeviceSetting::DeviceId => {}
-        DeviceSetting::SystemAxisCount => {}
+        DeviceSetting::CommAddress => d.comm.address = n,
+        DeviceSetting::CommAlert => d.comm.alert = n,
+        DeviceSetting::CommChecksum => d.comm.checksum = n,
+        DeviceSetting::SystemAccess => d.access = n,
+        DeviceSetting::DeviceId | DeviceSetting::SystemAxisCount => {}
     }
     d
 }
 
-fn with_parked(mut d: Device, parked: bool) -> Device
+fn with_parked(d: Device, parked: bool) -> Device
     ensures { result ≡ with_parked parked d }
 {
-    d.parked = parked;
-    d
+    Device { parked, ..d }
 }
 
 fn after(d: Device, c: DeviceCommand) -> Device
     ensures { result ≡ device_after c d }
 {
     match c {
-        DeviceCommand::Get(_) => d,
         DeviceCommand::Set(s, n) => put(d, s, n),
-        DeviceCommand::ParkingState => d,
         DeviceCommand::Park => with_parked(d, true),
         DeviceCommand::Unpark => with_parked(d, false),
-        DeviceCommand::Echo => d,
-        DeviceCommand::Help => d,
+        _ => d,
     }
 }
 
 // Every axis that k means after the command, and all other places as they are.
+#[tactic(auto, unfolding(device::specs::Record::on_axes))]
 fn obeyed(mut d: Device, k: u64, c: AxisCommand) -> Device
     ensures { result ≡ on_axes (axis_after c) k d }
 {
-    let axes = d.axes;
-    let next = change_each(axes, k, d.many(k), c);
-    d.axes = next;
+    d.axes = change_each(d.axes, k, d.many(k), c);
     d
 }
 
 // The record after a command for axis k, 0 for all axes, that meets no refusal. Parked is set here: in `obeyed`
 // it would take 170 instructions more.
+#[tactic(auto, unfolding(rules::specs::Effects::next))]
 pub fn next(d: Device, k: u64, c: Command) -> Device
-    ensures { result ≡ next_of d k c }
+    ensures { result ≡ next d k c }
 {
     match c {
         Command::OfAxes(a) => obeyed(with_parked(d, !unparks(a) & d.parked), k, a),

@@ -5,12 +5,12 @@
 ghost use Rattle.std.specs.Prelude.{◌≡◌, cond, [], ◌++◌, ◌+◌, ◌≤◌, ◌<◌, length};
 ghost use Rattle.buffer.specs.Wrote.{Wrote};
 ghost use Rattle.reply.specs.Help.{help_text, longest_answer, longest_infos, info_lines};
-ghost use Rattle.reply.specs.Reply.{longest_reply, joined, reply as replyText, alert as alertText, info as infoText};
+ghost use Rattle.reply.specs.Reply.{longest_reply, joined, reply as reply_text, alert as alert_text, info};
 ghost use Rattle.reply.specs.Told.{told_text, informs};
-ghost use Rattle.carriage.specs.Report.{alert_wanted, report as report_of};
-ghost use Rattle.carriage.specs.Step.{Gives, concerns as concernsOf, words_room, room_for, step as step_of, refused_at};
+ghost use Rattle.carriage.specs.Report.{alert_wanted, report};
+ghost use Rattle.carriage.specs.Step.{Gives, concerns, words_room, room_for, step, refused_at};
 ghost use Rattle.carriage.specs.ReadOnce.{end_within, overheard, respond_to};
-ghost use Rattle.carriage.specs.Rulings.{foreign as foreignTo, roomy, heard, heading_of, rule_words, rule as rule_of};
+ghost use Rattle.carriage.specs.Rulings.{foreign, roomy, heard, heading_of, rule_words, rule};
 
 use crate::effects::next;
 use axis::reports::Report;
@@ -63,27 +63,18 @@ fn heading_of(d: Device, k: u64, ok: bool) -> Heading
 
 // Is the line sent to one device, which is another?
 fn foreign(own: u64, o: Result<Opening, RefusedAt>) -> bool
-    ensures { result ≡ foreignTo own o }
+    ensures { result ≡ foreign own o }
 {
-    match o {
-        Err(_) => false,
-        Ok(Opening::Bare(_)) => false,
-        Ok(Opening::To(a, _, _)) => !((a == 0) | (a == own)),
-    }
+    matches!(o, Ok(Opening::To(a, _, _)) if a != 0 && a != own)
 }
 
 // How many bytes the answer to a command's words may take: a reply's, and each info line's.
 fn words_room(w: Result<Worded, RefusedAt>) -> usize
     ensures { result ≡ words_room w }
 {
-    let Ok(x) = w else {
-        return LONGEST_REPLY;
-    };
-    let shown = x.command.form().demands().reply;
-    if shown.informs() {
-        LONGEST_ANSWER
-    } else {
-        LONGEST_REPLY
+    match w {
+        Ok(x) if x.command.form().demands().reply.informs() => LONGEST_ANSWER,
+        _ => LONGEST_REPLY,
     }
 }
 
@@ -129,13 +120,11 @@ fn hear(own: u64, good: bool, line: &[u8], room: usize) -> Result<Addressed, Ref
 }
 
 // Is it sent to all, or to this device?
+#[tactic(auto, unfolding(crate::specs::Step::concerns))]
 pub fn concerns(d: Device, address: u64) -> bool
-    ensures { result ≡ concernsOf d address }
+    ensures { result ≡ concerns d address }
 {
-    let own = d.comm.address.place() as u64;
-    let all = address == 0;
-    let mine = address == own;
-    all | mine
+    address == 0 || address == d.comm.address.place() as u64
 }
 
 // The reader's refusal, or the first that its command meets.
@@ -164,7 +153,7 @@ pub fn refused_at(d: Device, line: &[u8]) -> u8
 
 // What was read comes to this for the record.
 pub fn rule(d: Device, r: Result<Addressed, RefusedAt>) -> Ruling
-    ensures { result ≡ rule_of d r }
+    ensures { result ≡ rule d r }
 {
     match r {
         Err(e) => Ruling::Silent(e.refusal),
@@ -181,7 +170,7 @@ pub fn rule(d: Device, r: Result<Addressed, RefusedAt>) -> Ruling
 // A reply: what it tells may stand in the line.
 fn put_reply(h: Heading, x: Told, line: &[u8], reply: &mut [u8]) -> usize
     requires { (longest_reply ≤ length reply.old) × (h.head.axis < 10) × (length (told_text line.now x) ≤ 74) }
-    ensures { Wrote reply.old 0 (replyText h.head h.sum (told_text line.now x)) reply.new result }
+    ensures { Wrote reply.old 0 (reply_text h.head h.sum (told_text line.now x)) reply.new result }
 {
     let data = put_head(reply, 0, h.head);
     let end = put_told(reply, data, x, line);
@@ -191,7 +180,7 @@ fn put_reply(h: Heading, x: Told, line: &[u8], reply: &mut [u8]) -> usize
 // The info line of a place of the texts, from a place of the buffer on.
 fn put_info(buf: &mut [u8], at: usize, address: u64, sum: bool, place: usize) -> usize
     requires { at + longest_reply ≤ length buf.old }
-    ensures { Wrote buf.old at (infoText address 0 sum (help_text place)) buf.new result }
+    ensures { Wrote buf.old at (info address 0 sum (help_text place)) buf.new result }
 {
     let line = &mut buf[at..];
     let end = reply::put_info(line, 0, address, place);
@@ -204,10 +193,8 @@ fn put_infos(buf: &mut [u8], at: usize, address: u64, sum: bool) -> usize
     ensures { Wrote buf.old at (joined (info_lines address sum)) buf.new result }
 {
     let mut next = at;
-    let mut i: usize = 0;
-    while i < HELP_TEXTS {
-        next = put_info(buf, next, address, sum, i);
-        i += 1;
+    for place in 0..HELP_TEXTS {
+        next = put_info(buf, next, address, sum, place);
     }
     next
 }
@@ -215,7 +202,7 @@ fn put_infos(buf: &mut [u8], at: usize, address: u64, sum: bool) -> usize
 // The reply to an accepted command, and the info lines behind it.
 fn put_answer(h: Heading, x: Told, line: &[u8], reply: &mut [u8]) -> usize
     requires { (cond (informs x) longest_answer longest_reply ≤ length reply.old) × (h.head.axis < 10) × (length (told_text line.now x) ≤ 74) }
-    ensures { Wrote reply.old 0 (replyText h.head h.sum (told_text line.now x) ++ cond (informs x) (joined (info_lines h.head.address h.sum)) []) reply.new result }
+    ensures { Wrote reply.old 0 (reply_text h.head h.sum (told_text line.now x) ++ cond (informs x) (joined (info_lines h.head.address h.sum)) []) reply.new result }
 {
     let end = put_reply(h, x, line, reply);
     if x.informs() {
@@ -228,7 +215,7 @@ fn put_answer(h: Heading, x: Told, line: &[u8], reply: &mut [u8]) -> usize
 // What a line makes of a record and a buffer. What a reply tells is taken from the record before it changes. The record changes
 // where it stands and is given back at one place: each other way to write this copies it once more.
 pub fn step(mut d: Device, line: &[u8], reply: &mut [u8]) -> Answer
-    ensures { Gives (step_of d line.now reply.old) result reply.new }
+    ensures { Gives (step d line.now reply.old) result reply.new }
 {
     let good = d.good();
     let own = d.comm.address.place() as u64;
@@ -280,13 +267,7 @@ fn overhear(
 fn end_within(from: usize, end: usize) -> usize
     ensures { result ≡ end_within from end }
 {
-    if end < MOST_WORDS {
-        return end;
-    }
-    if end - MOST_WORDS <= from {
-        return end;
-    }
-    from + MOST_WORDS
+    end.min(from.saturating_add(MOST_WORDS))
 }
 
 // What was read of a line makes of a record and a buffer, as `step` does: for a line that is read once for several records.
@@ -328,7 +309,7 @@ pub fn respond(
 // An alert of the record and axis that the heading is of.
 fn put_alert(h: Heading, alert: &mut [u8]) -> usize
     requires { (longest_reply ≤ length alert.old) × (h.head.axis < 10) }
-    ensures { Wrote alert.old 0 (alertText h.head h.sum) alert.new result }
+    ensures { Wrote alert.old 0 (alert_text h.head h.sum) alert.new result }
 {
     let end = reply::put_alert(alert, 0, h.head);
     put_end(alert, end, h.sum)
@@ -343,7 +324,7 @@ fn alert_wanted(verdict: Result<(), Refusal>, r: Report, alert: Number) -> bool
 
 // What a motor report makes of a record and of a buffer, in which its alert stands, if one is due.
 pub fn report(d: Device, axis: Number, kind: Number, last: Number, alert: &mut [u8]) -> Answer
-    ensures { Gives (report_of d axis kind last alert.old) result alert.new }
+    ensures { Gives (report d axis kind last alert.old) result alert.new }
 {
     if alert.len() < LONGEST_REPLY {
         return Answer {
@@ -354,15 +335,15 @@ pub fn report(d: Device, axis: Number, kind: Number, last: Number, alert: &mut [
     }
     let r = axis::reports::report_of(kind, last);
     let o = rules::reports::report(d, axis, r);
-    let next = o.next;
-    let mut length: usize = 0;
-    if alert_wanted(o.verdict, r, next.comm.alert) {
-        length = put_alert(heading_of(next, axis.place() as u64, true), alert);
-    }
+    let length = if alert_wanted(o.verdict, r, o.next.comm.alert) {
+        put_alert(heading_of(o.next, axis.place() as u64, true), alert)
+    } else {
+        0
+    };
     Answer {
         verdict: o.verdict,
         length,
-        next,
+        next: o.next,
     }
 }
 

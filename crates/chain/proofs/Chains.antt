@@ -34,7 +34,7 @@ use Rattle.carriage.proofs.AnswerRoom.{most_room}
 use Rattle.carriage.proofs.ReadOnce.{read_once}
 use Rattle.chain.specs.declared.Pass.{Pass}
 use Rattle.chain.specs.declared.Told.{Told}
-use Rattle.chain.specs.Walk.{heeds, Taken, taken, Run, run, Walked, begun, told, unless}
+use Rattle.chain.specs.Walk.{heeds, Taken, taken, Run, run, Walked, read_for_all, begun, told, unless}
 use Rattle.chain.specs.Chain.{next_of, text_of, verdict_of, refusal, refusal_of, refused, responds, refuses, chain, Gives}
 use Rattle.chain.proofs.Alone.{alone, text_short, quiet_next, quiet_text, aloud_text}
 use Rattle.chain.proofs.Walks.{taken_obeyed, taken_idle}
@@ -267,21 +267,21 @@ module _ (n room : ℕ) (g : Bool) (e : refusal n room g ≡ ACCEPTED) where
 
 -- ---- the line is read, unless the chain is refused
 module _ (n room : ℕ) (g : Bool) (l : List ℕ) {v : Verdict} (e : v ≡ refusal n room g) where
-  pub begun_refused : (m : Refusal) → v ≡ Err m → record { read = Err (refusal_at m 255); place = 0 } ≡ begun n room g l
-  begun_refused m z = rw (← refused_early n room g (read_line l) m (sym e ∙ z))
+  pub reads_refused : (m : Refusal) → v ≡ Err m → Err (refusal_at m 255) ≡ read_for_all n room g l
+  reads_refused m z = rw (← refused_early n room g (read_line l) m (sym e ∙ z))
 
   module _ (z : v ≡ ACCEPTED) {o : Result Opening RefusedAt} {r : LineRead} (p : o ≡ open_line l) (q : r ≡ read_on l o) where
     is_line : r ≡ read_line l
     is_line = q ∙ ap (read_on l) p ∙ opened_read l
 
-    pub begun_short : {k : ℕ} → k ≡ room_for r * n → room < k → record { read = Err (refusal_at NoRoom 255); place = 0 } ≡ begun n room g l
-    begun_short is h =
+    pub reads_short : {k : ℕ} → k ≡ room_for r * n → room < k → Err (refusal_at NoRoom 255) ≡ read_for_all n room g l
+    reads_short is h =
         let short = refused_short n room g (read_line l) (sym e ∙ z) (rw (is, is_line) at h) in rw (← short)
 
-    pub begun_read : {k : ℕ} → k ≡ room_for r * n → k ≤ room → record { read = r; place = 0 } ≡ begun n room g l
-    begun_read is h =
+    pub reads_all : {k : ℕ} → k ≡ room_for r * n → k ≤ room → r ≡ read_for_all n room g l
+    reads_all is h =
         let all = refused_not n room g (read_line l) (sym e ∙ z) (rw (is, is_line) at h) in
-        rw (← all) (ap (λ (x : LineRead). record { read = x; place = 0 }) is_line)
+        rw (← all) is_line
 
 -- ---- the walk of `chain`, from its beginning on
 module _ (xs : List Device) (l b : List ℕ) {g : Bool} {p : Pass} (e : g ≡ all good xs) (f : p ≡ begun (length xs) (length b) g l)

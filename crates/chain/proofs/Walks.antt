@@ -8,9 +8,7 @@ use native.Mathlib.Omega.{arith}
 use native.Mathlib.Numerals.{add-one}
 use lib.ListN.{length, take, drop, get_or, set, length-append, length-drop, take-append-drop, drop_of_length-le}
 use lib.Seq.{take-suc, drop-cons, take_all, length-take-le, set_at, append_snoc, get_or_at}
-use Rattle.std.proofs.lemmas.List.{set-get_or}
 use Rattle.laws.proofs.Lists.{rest}
-use Rattle.buffer.proofs.Wrote.{rest_over}
 use Rattle.line.specs.Reading.{LineRead}
 use Rattle.device.specs.declared.Device.{Device}
 use Rattle.carriage.specs.declared.Answer.{Answer}
@@ -62,18 +60,6 @@ module _ (l : List ℕ) (d : Device) (r : LineRead) (k : ℕ) (b : List ℕ) {a 
     (g : Gives (respond_to d l r (take (length b - k) (drop k b))) a c) where
   pub answer_fits : k ≤ length b → k + a.length ≤ length b
   answer_fits h = rw (g.result, rest k b) (omega (arith, h, once_fits d l (drop k b) r, length-drop k b))
-
-  -- the turn of a record that heeds the line
-  pub took : Took (obeyed l d (record { read = r; place = k }) b) (take k b ++ (c ++ drop (length b - k) (drop k b)))
-      (record { device = a.next; pass = record { read = r; place = k + a.length } })
-  took =
-      let s = g.result ∙ ap (λ (x : List ℕ). (respond_to d l r x).answer) (rest k b) in
-      let q = g.left ∙ ap (λ (x : List ℕ). (respond_to d l r x).buffer) (rest k b) in
-      record {
-        device = rw s;
-        pass = rw s;
-        buffer = rw (q, rest_over k b) (ap (λ (x : List ℕ). take k b ++ x) (append-nil (respond_to d l r (drop k b)).buffer));
-      }
 
 -- ---- a walk
 -- a record more at the end
@@ -181,10 +167,11 @@ module _ (l : List ℕ) (p : Pass) (b : List ℕ) (xs : List Device) where
             (y ∙ pass ∙ pass_next, z ∙ buffer ∙ buffer_next),
           )
 
-      pub unmoved : {es : List Device} {r : Pass} {k : List ℕ} → heeds (get_or ds i d) q.read ≡ false → es ≡ ds → r ≡ q → k ≡ c
+      pub unmoved : {es : List Device} {r : Pass} {k : List ℕ} → heeds (get_or ds i d) q.read ≡ false
+          → es ≡ set ds i (get_or ds i d) → r ≡ q → k ≡ c
           → (es ≡ halfway (i + 1)) × ((r ≡ (run_to (i + 1)).pass) × (k ≡ (run_to (i + 1)).buffer))
       unmoved deaf x y z =
           let quiet : heeds (get_or (halfway i) i d) (run_to i).pass.read ≡ false =
           sym (ap (λ (v : List Device). heeds (get_or v i d) q.read) e
           ∙ ap (λ (v : Pass). heeds (get_or (halfway i) i d) v.read) f) ∙ deaf in
-          (x ∙ e ∙ sym (set-get_or (halfway i) i d) ∙ idle_next quiet, (y ∙ f ∙ idle_pass quiet, z ∙ g ∙ idle_buffer quiet))
+          (x ∙ ap (λ (v : List Device). set v i (get_or v i d)) e ∙ idle_next quiet, (y ∙ f ∙ idle_pass quiet, z ∙ g ∙ idle_buffer quiet))

@@ -76,8 +76,11 @@ abbrev pub unless : Verdict → LineRead → LineRead
 unless (Ok u) r = r
 unless (Err n) r = Err (refusal_at n NOWHERE)
 
+abbrev pub read_for_all : ℕ → ℕ → Bool → List ℕ → LineRead
+read_for_all n room allGood l = unless (refusal_of n room allGood (read_line l)) (read_line l)
+
 abbrev pub begun : ℕ → ℕ → Bool → List ℕ → Pass
-begun n room allGood l = record { read = unless (refusal_of n room allGood (read_line l)) (read_line l); place = 0 }
+begun n room allGood l = record { read = read_for_all n room allGood l; place = 0 }
 
 abbrev pub told : LineRead → ℕ → Told
 told (Err e) place = record { verdict = Err e.refusal; length = place }

@@ -2,12 +2,12 @@
 // where it stands, and their answers stand one behind the other. specs/Chain.antt says what a line makes of all of it.
 #![tactic(auto)]
 
-ghost use Rattle.std.specs.Prelude.{◌≡◌, ◌&&◌, ◌*◌, ◌≤◌, length};
+ghost use Rattle.std.specs.Prelude.{◌≡◌, ◌*◌, ◌≤◌, length};
 ghost use Rattle.laws.specs.Lists.{all};
-ghost use Rattle.device.specs.Good.{good as goodOf};
+ghost use Rattle.device.specs.Good.{good};
 ghost use Rattle.carriage.specs.Step.{room_for};
-ghost use Rattle.chain.specs.Chain.{longest_chain, Gives, refusal as refusal_of, chain as chainOf};
-ghost use Rattle.chain.specs.Walk.{heeds as heedsOf, obeyed, Fits, Took, Walked, begun, told};
+ghost use Rattle.chain.specs.Chain.{longest_chain, Gives, refusal, chain};
+ghost use Rattle.chain.specs.Walk.{heeds, obeyed, Fits, Took, Walked, read_for_all, begun, told};
 
 use carriage::{respond, room_for};
 use device::Device;
@@ -41,13 +41,9 @@ pub struct Told {
 
 // Is the line for this record?
 fn heeds(d: Device, p: Pass) -> bool
-    ensures { result ≡ heedsOf d p.read }
+    ensures { result ≡ heeds d p.read }
 {
-    let read = p.read;
-    match read {
-        Err(_) => false,
-        Ok(x) => carriage::concerns(d, x.address),
-    }
+    p.read.is_ok_and(|x| carriage::concerns(d, x.address))
 }
 
 // The turn of a record that the line is for: its answer stands behind those before it.
@@ -55,20 +51,19 @@ fn take_turn(d: Device, line: &[u8], reply: &mut [u8], p: Pass) -> Turn
     requires { Fits p reply.old }
     ensures { Took (obeyed line.now d p reply.old) reply.new result }
 {
-    let read = p.read;
-    let at = p.place;
-    let a = respond(d, read, line, &mut reply[at..]);
-    let device = a.next;
-    let place = at + a.length;
+    let a = respond(d, p.read, line, &mut reply[p.place..]);
     Turn {
-        device,
-        pass: Pass { read, place },
+        device: a.next,
+        pass: Pass {
+            read: p.read,
+            place: p.place + a.length,
+        },
     }
 }
 
 // 20, then 21, both before the line is read. How many records there are is asked first, so that the product fits its type.
 fn refusal(n: usize, room: usize, good: bool) -> Result<(), Refusal>
-    ensures { result ≡ refusal_of n room good }
+    ensures { result ≡ refusal n room good }
 {
     if LONGEST_CHAIN < n {
         return Err(Refusal::NoRoom);
@@ -90,59 +85,50 @@ fn room_for_all(read: Result<Addressed, RefusedAt>, n: usize) -> usize
     room_for(read) * n
 }
 
-// What is read of a line for the whole chain, where there is room for every record's answer to it; and no answer so far.
-fn begin(n: usize, room: usize, good: bool, line: &[u8]) -> Pass
-    ensures { result ≡ begun n room good line.now }
+// What is read of a line for the whole chain, where there is room for every record's answer to it.
+fn read_for_all(n: usize, room: usize, good: bool, line: &[u8]) -> Result<Addressed, RefusedAt>
+    ensures { result ≡ read_for_all n room good line.now }
 {
     if let Err(refused) = refusal(n, room, good) {
-        return Pass {
-            read: Err(refused.nowhere()),
-            place: 0,
-        };
+        return Err(refused.nowhere());
     }
     let read = line::reading::read_line(line, line::reading::open_line(line));
     if room < room_for_all(read, n) {
-        return Pass {
-            read: Err(Refusal::NoRoom.nowhere()),
-            place: 0,
-        };
+        return Err(Refusal::NoRoom.nowhere());
     }
-    Pass { read, place: 0 }
+    read
+}
+
+// What is read of it, and no answer so far.
+fn begin(n: usize, room: usize, good: bool, line: &[u8]) -> Pass
+    ensures { result ≡ begun n room good line.now }
+{
+    Pass {
+        read: read_for_all(n, room, good, line),
+        place: 0,
+    }
 }
 
 // The line's own refusal; 5 where no record has answered.
 fn finish(p: Pass) -> Told
     ensures { result ≡ told p.read p.place }
 {
-    let read = p.read;
-    let length = p.place;
-    let verdict = match read {
+    let verdict = match p.read {
         Err(e) => Err(e.refusal),
-        Ok(_) if length == 0 => Err(Refusal::NotMine),
+        Ok(_) if p.place == 0 => Err(Refusal::NotMine),
         Ok(_) => Ok(()),
     };
-    Told { verdict, length }
-}
-
-// Is this record good too?
-fn and_good(sofar: bool, d: Device) -> bool
-    ensures { result ≡ (sofar && goodOf d) }
-{
-    let good = d.good();
-    sofar & good
+    Told {
+        verdict,
+        length: p.place,
+    }
 }
 
 // Is every record good?
 fn all_good(devices: &[Device]) -> bool
-    ensures { result ≡ all goodOf devices.now }
+    ensures { result ≡ all good devices.now }
 {
-    let mut i = 0;
-    let mut good = true;
-    while i < devices.len() {
-        good = and_good(good, devices[i]);
-        i += 1;
-    }
-    good
+    devices.iter().all(|d| d.good())
 }
 
 // Each record that the line is for takes its turn, and the next record is stored where it stood.
@@ -150,22 +136,20 @@ fn walk(devices: &mut [Device], line: &[u8], reply: &mut [u8], start: Pass) -> P
     requires { Fits start reply.old }
     ensures { Walked line.now start devices.old devices.new reply.old reply.new result }
 {
-    let mut i = 0;
     let mut p = start;
-    while i < devices.len() {
-        if heeds(devices[i], p) {
-            let t = take_turn(devices[i], line, reply, p);
-            devices[i] = t.device;
+    for device in devices.iter_mut() {
+        if heeds(*device, p) {
+            let t = take_turn(*device, line, reply, p);
+            *device = t.device;
             p = t.pass;
         }
-        i += 1;
     }
     p
 }
 
 // What a line makes of a chain of records and of a buffer.
 pub fn chain(devices: &mut [Device], line: &[u8], reply: &mut [u8]) -> Told
-    ensures { Gives (chainOf devices.old line.now (length reply.old)) reply.old result devices.new reply.new }
+    ensures { Gives (chain devices.old line.now (length reply.old)) reply.old result devices.new reply.new }
 {
     let good = all_good(devices);
     let start = begin(devices.len(), reply.len(), good, line);

@@ -76,7 +76,7 @@ unfolding report is_axis
 report_beyond d axis r i l =
     let k = place axis.0 in
     ⊎_elim (λ e. ap (λ (x : Device). at x i) (report_next d axis r e)
-          ∙ beyond_axes (reported r) d k i (leb-true k d.count (and_right (leb 1 k) (leb k d.count) (an_axis d k r e))) l) (λ h. ap (λ (x : Device). at x i) (report_keeps d axis r h)) (accepted_or (report d axis r).verdict)
+    ∙ beyond_axes (reported r) d k i (leb-true k d.count (and_right (leb 1 k) (leb k d.count) (an_axis d k r e))) l) (λ h. ap (λ (x : Device). at x i) (report_keeps d axis r h)) (accepted_or (report d axis r).verdict)
 
 -- and there are as many places after it as before
 length_next : (d : Device) (k : ℕ) (c : Command) → length (next d k c).axes ≡ length d.axes

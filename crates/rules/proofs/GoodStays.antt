@@ -222,4 +222,4 @@ unfolding report
 report_good d axis r h =
     let k = place axis.0 in
     ⊎_elim (λ e. rw (report_next d axis r e) (whole (on_axes (reported r) k d)
-          (still_good d k (reported r) (takes r) (taken d k r e) (λ a t g. reported_good a g r t) (goodness d h) (reported_still r)))) (λ n. rw (report_keeps d axis r n) h) (accepted_or (report d axis r).verdict)
+    (still_good d k (reported r) (takes r) (taken d k r e) (λ a t g. reported_good a g r t) (goodness d h) (reported_still r)))) (λ n. rw (report_keeps d axis r n) h) (accepted_or (report d axis r).verdict)

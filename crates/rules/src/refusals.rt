@@ -3,7 +3,7 @@
 ghost use Rattle.std.specs.Prelude.{◌≡◌};
 ghost use Rattle.laws.specs.Refusals.{first_of};
 ghost use Rattle.command.specs.Commands.{demands};
-ghost use Rattle.rules.specs.Refusals.{bad_axis, device_only, no_access, parked as parkedFor, status_busy, device_takes, bad_data};
+ghost use Rattle.rules.specs.Refusals.{bad_axis, device_only, no_access, parked as parked_for, status_busy, device_takes, bad_data};
 ghost use Rattle.rules.specs.Refusals.{standing_rows, rows, ruled};
 
 use command::kinds::Demands;
@@ -20,62 +20,56 @@ pub struct Ruled {
 }
 
 // 12 BADAXIS: axis above the count.
+#[tactic(auto, unfolding(crate::specs::Refusals::bad_axis))]
 fn bad_axis(d: Device, k: u64) -> bool
     ensures { result ≡ bad_axis d k }
 {
-    let n = d.count as u64;
-    n < k
+    k > d.count as u64
 }
 
 // 13 DEVICEONLY: axis not 0, device scope.
+#[tactic(auto, unfolding(crate::specs::Refusals::device_only))]
 fn device_only(k: u64, c: Command) -> bool
     ensures { result ≡ device_only k c }
 {
-    let a = k == 0;
-    match c {
-        Command::OfAxes(_) => false,
-        Command::OfDevice(_) => !a,
-    }
+    matches!(c, Command::OfDevice(_)) && k != 0
 }
 
 // 14 NOACCESS: access too low.
+#[tactic(auto, unfolding(crate::specs::Refusals::no_access))]
 fn no_access(d: Device, x: Demands) -> bool
     ensures { result ≡ no_access d x }
 {
-    let a = d.access.place();
-    a < x.access as usize
+    d.access.place() < x.access as usize
 }
 
 // 15 PARKED: move, stop and estop on a parked device.
+#[tactic(auto, unfolding(crate::specs::Refusals::parked))]
 fn parked_for(d: Device, x: Demands) -> bool
-    ensures { result ≡ parkedFor d x }
+    ensures { result ≡ parked_for d x }
 {
-    let p = d.parked;
-    p & x.unparked
+    d.parked && x.unparked
 }
 
 // 16 STATUSBUSY: some axis moves, and the command takes its axes at rest.
+#[tactic(auto, unfolding(crate::specs::Refusals::status_busy))]
 fn status_busy(d: Device, k: u64, x: Demands) -> bool
     ensures { result ≡ status_busy d k x }
 {
-    if x.rest { d.moving(k) } else { false }
+    x.rest && d.moving(k)
 }
 
 fn device_takes(c: DeviceCommand) -> bool
     ensures { result ≡ device_takes c }
 {
     match c {
-        DeviceCommand::Get(_) => true,
         DeviceCommand::Set(s, n) => device_allows(s, n),
-        DeviceCommand::ParkingState => true,
-        DeviceCommand::Park => true,
-        DeviceCommand::Unpark => true,
-        DeviceCommand::Echo => true,
-        DeviceCommand::Help => true,
+        _ => true,
     }
 }
 
 // 11 BADDATA: value, target, reference or range, on some axis or on the device.
+#[tactic(auto, unfolding(crate::specs::Refusals::bad_data))]
 fn bad_data(d: Device, k: u64, c: Command) -> bool
     ensures { result ≡ bad_data d k c }
 {
@@ -86,6 +80,7 @@ fn bad_data(d: Device, k: u64, c: Command) -> bool
 }
 
 // The first row that applies of those above 11 BADDATA; 10 BADCOMMAND is a set of a read-only setting.
+#[tactic(auto, unfolding(laws::specs::Refusals::first_of))]
 fn standing(d: Device, k: u64, c: Command, x: Demands) -> Result<(), Refusal>
     ensures { result ≡ first_of (standing_rows d k c x) }
 {

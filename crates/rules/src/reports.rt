@@ -2,8 +2,8 @@
 // A refused report changes nothing.
 ghost use Rattle.std.specs.Prelude.{◌≡◌, ◌-◌, ◌≤◌, take, drop};
 ghost use Rattle.laws.specs.Lists.{all, change_from};
-ghost use Rattle.axis.specs.Reports.{takes as takesOf, reported as reportedOf};
-ghost use Rattle.rules.specs.Reports.{is_axis, bad_report, report_refusal, report as report_of};
+ghost use Rattle.axis.specs.Reports.{takes, reported};
+ghost use Rattle.rules.specs.Reports.{is_axis, bad_report, report_refusal, report};
 
 use axis::Axis;
 use axis::reports::Report;
@@ -12,40 +12,32 @@ use laws::Refusal;
 use units::Number;
 
 // Is k an axis from 1 up to the count?
+#[tactic(auto, unfolding(crate::specs::Reports::is_axis))]
 fn is_axis(d: Device, k: u64) -> bool
     ensures { result ≡ is_axis d k }
 {
-    let n = d.count as u64;
-    let a = 1 <= k;
-    let b = k <= n;
-    a & b
+    (1..=d.count as u64).contains(&k)
 }
 
 fn takes_at(axes: [Axis; 4], k: u64, r: Report) -> bool
     requires { (1 ≤ k) × (k ≤ 4) }
-    ensures { result ≡ all (takesOf r) (take 1 (drop (k - 1) axes)) }
+    ensures { result ≡ all (takes r) (take 1 (drop (k - 1) axes)) }
 {
-    let i = k as usize - 1;
-    axis::reports::takes(axes[i], r)
+    axis::reports::takes(axes[k as usize - 1], r)
 }
 
 fn bad_report(d: Device, k: u64, r: Report) -> bool
     requires { d.count ≤ 4 }
     ensures { result ≡ bad_report d k r }
 {
-    if is_axis(d, k) {
-        let axes = d.axes;
-        !takes_at(axes, k, r)
-    } else {
-        true
-    }
+    !(is_axis(d, k) && takes_at(d.axes, k, r))
 }
 
+#[tactic(auto, unfolding(crate::specs::Reports::report_refusal, laws::specs::Refusals::first_of))]
 fn report_refusal(d: Device, k: u64, r: Report) -> Result<(), Refusal>
     ensures { result ≡ report_refusal d k r }
 {
-    let g = d.good();
-    if !g {
+    if !d.good() {
         return Err(Refusal::BadState);
     }
     if bad_report(d, k, r) {
@@ -57,24 +49,21 @@ fn report_refusal(d: Device, k: u64, r: Report) -> Result<(), Refusal>
 // The axes with what the report makes of the one at k.
 fn reported_at(mut axes: [Axis; 4], k: u64, r: Report) -> [Axis; 4]
     requires { (1 ≤ k) × (k ≤ 4) }
-    ensures { result ≡ change_from (reportedOf r) (k - 1) 1 axes }
+    ensures { result ≡ change_from (reported r) (k - 1) 1 axes }
 {
     let i = k as usize - 1;
-    let a = axes[i];
-    axes[i] = axis::reports::reported(a, r);
+    axes[i] = axis::reports::reported(axes[i], r);
     axes
 }
 
 // The refusal and the record as it was, or the next record.
 pub fn report(mut d: Device, axis: Number, r: Report) -> Outcome
-    ensures { result ≡ report_of d axis r }
+    ensures { result ≡ report d axis r }
 {
     let k = axis.place() as u64;
     let verdict = report_refusal(d, k, r);
     if verdict.is_ok() {
-        let axes = d.axes;
-        let next = reported_at(axes, k, r);
-        d.axes = next;
+        d.axes = reported_at(d.axes, k, r);
     }
     Outcome { verdict, next: d }
 }

@@ -2,6 +2,6 @@
 use Rattle.carriage.proofs.AnswerRoom.{informing_room}
 use Rattle.carriage.proofs.words_room.Goals as goal
 
-pub returns-then-informs : goal.returns-then-informs
-returns-then-informs c =
-    informing_room _ c.form.ensures c.demands-shown.ensures c.informs.ensures c.in-Ok.is c.if-informs.true
+pub returns-in-Ok : goal.returns-in-Ok
+returns-in-Ok c =
+    informing_room _ c.form.ensures c.demands.ensures c.informs.ensures c.in-Ok.is c.if-informs.true

@@ -1,16 +1,14 @@
--- A record more is asked, and the end is reached.
-use native.Mathlib.Omega.{arith}
-use mathlib.Core.Path.{refl}
-use Rattle.laws.proofs.Folds.{all_more, all_end}
+-- The library's `all` asks each record whether it is good.
+use mathlib.Core.Path.{◌∙◌}
+use Rattle.std.proofs.Common.{rules, tests}
+use Rattle.std.proofs.lemmas.Iterator.{YieldsList-from_slice}
+use Rattle.std.proofs.lemmas.Iterator.Search.{all_from_yields_List}
+use Rattle.laws.proofs.Listed.{all_listed}
 use Rattle.device.specs.Good.{good}
 use Rattle.chain.proofs.all_good.Goals as goal
 
-pub loop-i-preserved : goal.loop-i-preserved
-loop-i-preserved c =
-    let l = c.loop-i in
-    (omega arith, rw c.and_good-good.ensures (all_more good c.args.devices.now _ l.i l.good _ c.loop-i-test.true refl l.invariant.1))
-
 pub returns : goal.returns
 returns c =
-    let l = c.loop-i in
-    all_end good c.args.devices.now l.i l.good c.loop-i-test.false l.invariant.1
+    let met = YieldsList-from_slice c.args.devices.now cc in
+    all_from_yields_List good _ _ c.all.result c.all.ensures.ran met (λ x b q k. search (rules, tests))
+    ∙ all_listed good _

@@ -6,6 +6,3 @@ use Rattle.chain.proofs.room_for_all.Goals as goal
 pub overflow_mul-result : goal.overflow_mul-result
 overflow_mul-result c =
     record { fits = omega (arith, all_within c.args.n c.requires c.args.read c.room_for.ensures) }
-
-pub returns : goal.returns
-returns c = rw c.room_for.ensures
