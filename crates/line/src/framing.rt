@@ -9,6 +9,7 @@ ghost use Rattle.line.specs.FromTheEnd.{plain, content_length, refused_body, bod
 
 use crate::LONGEST_LINE;
 use laws::Refusal;
+use numbers::reading::{read_pair, says_sum};
 
 // How many bytes from the front are no forbidden ones.
 pub fn printable_len(s: &[u8]) -> usize
@@ -68,6 +69,7 @@ fn content_len(b: &[u8]) -> usize
 }
 
 // The refusal of bytes with a colon out of place or a wrong checksum: a forbidden byte among them is told first.
+#[tactic(auto, using(crate::proofs::FromTheEnd::some_forbidden, crate::proofs::FromTheEnd::none_forbidden))]
 fn refusal(s: &[u8]) -> Result<usize, Refusal>
     ensures { result ≡ refused_body s.now }
 {
@@ -86,7 +88,7 @@ fn read_body(b: &[u8]) -> Result<usize, Refusal>
         if b.len() <= c {
             return Ok(c);
         }
-        if numbers::reading::says_sum(&b[..c], numbers::reading::read_pair(b[c + 1], b[c + 2])) {
+        if says_sum(&b[..c], read_pair(b[c + 1], b[c + 2])) {
             return Ok(c);
         }
         return refusal(&b[c..]);

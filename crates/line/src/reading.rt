@@ -91,6 +91,7 @@ fn addressee_of(
 }
 
 // The address of a line up to the end of its content.
+#[tactic(auto, using(crate::proofs::Opened::open_address, crate::proofs::Opened::open_bare, crate::proofs::Opened::address_places))]
 fn open_words(s: &[u8]) -> Result<Opening, RefusedAt>
     ensures { result ≡ open_words s.now }
 {

@@ -11,6 +11,7 @@ use laws::RefusedAt;
 use words::{Word, same_bytes};
 
 // The command c, where no word is left.
+#[tactic(auto, using(crate::proofs::Steps::ended_yes, crate::proofs::Steps::ended_not))]
 pub(crate) fn ended_at(s: &[u8], at: usize, c: Command) -> Result<Worded, RefusedAt>
     ensures { result ≡ ended c (words_at s.now at) }
 {
@@ -25,6 +26,7 @@ pub(crate) fn ended_at(s: &[u8], at: usize, c: Command) -> Result<Worded, Refuse
 }
 
 // The row k, where one word is left and is its number.
+#[tactic(auto, using(crate::proofs::Steps::number_none, crate::proofs::Steps::number_alone_lem, crate::proofs::Steps::number_more, crate::proofs::Steps::number_places))]
 pub(crate) fn one_number(s: &[u8], at: usize, k: Numbered) -> Result<Worded, RefusedAt>
     ensures { result ≡ one_number k (words_at s.now at) }
 {

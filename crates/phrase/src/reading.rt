@@ -14,6 +14,7 @@ use laws::RefusedAt;
 use words::{Word, same_bytes};
 
 // The words behind `warnings`.
+#[tactic(auto, using(crate::proofs::Steps::warnings_alone, crate::proofs::Steps::warnings_clear, crate::proofs::Steps::warnings_other), unfolding(laws::specs::Text::text))]
 fn read_warnings(s: &[u8], at: usize) -> Result<Worded, RefusedAt>
     ensures { result ≡ read_warnings (words_at s.now at) }
 {
@@ -31,6 +32,7 @@ fn read_warnings(s: &[u8], at: usize) -> Result<Worded, RefusedAt>
 }
 
 // The words behind `help`.
+#[tactic(auto, using(crate::proofs::Steps::help_commands, crate::proofs::Steps::help_other), unfolding(laws::specs::Text::text))]
 fn read_help(s: &[u8], at: usize) -> Result<Worded, RefusedAt>
     ensures { result ≡ read_help (words_at s.now at) }
 {

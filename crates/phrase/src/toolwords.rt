@@ -74,6 +74,7 @@ fn parking_of(s: &[u8], at: usize, w: &[u8]) -> Result<Worded, RefusedAt>
 }
 
 // The words behind `tools parking`.
+#[tactic(auto, using(crate::proofs::Steps::parking_word))]
 fn read_parking(s: &[u8], at: usize) -> Result<Worded, RefusedAt>
     ensures { result ≡ read_parking (words_at s.now at) }
 {
@@ -102,6 +103,7 @@ fn tool_of(s: &[u8], at: usize, w: &[u8]) -> Result<Worded, RefusedAt>
 }
 
 // The words behind `tools`.
+#[tactic(auto, using(crate::proofs::Steps::tools_word))]
 pub(crate) fn read_tools(s: &[u8], at: usize) -> Result<Worded, RefusedAt>
     ensures { result ≡ read_tools (words_at s.now at) }
 {

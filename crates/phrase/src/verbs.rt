@@ -39,6 +39,7 @@ fn move_of(s: &[u8], at: usize, w: &[u8]) -> Result<Worded, RefusedAt>
 }
 
 // The words behind `move`.
+#[tactic(auto, using(crate::proofs::Steps::move_word))]
 pub(crate) fn read_move(s: &[u8], at: usize) -> Result<Worded, RefusedAt>
     ensures { result ≡ read_move (words_at s.now at) }
 {
@@ -67,6 +68,7 @@ fn get_of(s: &[u8], at: usize, x: Option<Setting>) -> Result<Worded, RefusedAt>
 }
 
 // The words behind `get`.
+#[tactic(auto, using(crate::proofs::Steps::get_word))]
 pub(crate) fn read_get(s: &[u8], at: usize) -> Result<Worded, RefusedAt>
     ensures { result ≡ read_get (words_at s.now at) }
 {
@@ -88,6 +90,7 @@ fn set_of(s: &[u8], at: usize, x: Option<Setting>) -> Result<Worded, RefusedAt>
 }
 
 // The words behind `set`.
+#[tactic(auto, using(crate::proofs::Steps::set_word))]
 pub(crate) fn read_set(s: &[u8], at: usize) -> Result<Worded, RefusedAt>
     ensures { result ≡ read_set (words_at s.now at) }
 {
