@@ -8,7 +8,7 @@ use mathlib.Core.Bool.{Bool, true, false, cond}
 use mathlib.Core.List.{List, []}
 use Prim.Native.Nat.{ℕ, ◌+◌, ◌≤◌, ◌<◌}
 use lib.ListN.{take, drop}
-use borrow.Author.Tests.{lt-ltb, le-ltb, le-leb, lt-leb}
+use borrow.Author.Tests.{lt-ltb, le-ltb, le-leb}
 use Rattle.words.specs.Cutting.{cut}
 use Rattle.command.specs.declared.Command.{Command}
 use Rattle.command.specs.Commands.{carries_words}
@@ -24,9 +24,6 @@ use Rattle.laws.specs.Refusals.{refusal_at}
 module _ (from end : ℕ) where
   pub within_short : end ≤ from + 74 → end_within from end ≡ end
   within_short h = rw (le-leb end (from + 74) h)
-
-  pub within_long : from + 74 < end → end_within from end ≡ from + 74
-  within_long h = rw (lt-leb end (from + 74) h)
 
 -- ---- what is heard of what was read
 module _ (good : Bool) (r : LineRead) (room : ℕ) where

@@ -25,8 +25,7 @@ use Rattle.line.proofs.Opened.{opened_read}
 use Rattle.line.proofs.Carried.{carried_near}
 use Rattle.device.specs.declared.Device.{Device}
 use Rattle.device.specs.Good.{good}
-use Rattle.rules.specs.declared.refusals.Ruled.{Ruled}
-use Rattle.rules.specs.Refusals.{refusal, ruled}
+use Rattle.rules.specs.Refusals.{refusal}
 use Rattle.reply.specs.Help.{longest_answer}
 use Rattle.reply.specs.Reply.{longest_reply}
 use Rattle.view.specs.Data.{data_of}
@@ -225,15 +224,3 @@ module _ (d : Device) (l b : List ℕ) where
   comes_once r = unless_shut (fitting r) (roomy (length b) r) fitted (λ n. refl)
       (λ room g. subst (Comes (fitting r)) (ap (rule d) (roomy_fitting r) ∙ rule_fitted (roomy (length b) r))
       (roomy_comes room g (fitting r) (fitting_near r)))
-
--- the reader's command, where it meets no refusal, and where it meets one
-module _ (d : Device) (k end from : ℕ) (c : Command) {w : WordsRead} (e : w ≡ Ok (worded c from)) where
-  module _ {x : Ruled} (q : x ≡ ruled d k c) where
-    met_by : {v : Verdict} → x.verdict ≡ v → refusal d k c ≡ v
-    met_by h = sym (ap (λ (y : Ruled). y.verdict) q) ∙ h
-
-    pub ruled_accepted : x.verdict ≡ ACCEPTED → Accepted k from end c x.demands ≡ rule_words d k end w
-    ruled_accepted h = rw (e, met_by h) (ap (λ (y : Ruled). Accepted k from end c y.demands) q)
-
-    pub ruled_rejected : {n : Refusal} → x.verdict ≡ Err n → Rejected k n ≡ rule_words d k end w
-    ruled_rejected h = rw (e, met_by h)

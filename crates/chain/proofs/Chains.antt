@@ -1,7 +1,7 @@
 -- The walk over the records comes to what specs/Chain.antt says: each record is answered as if it heard the line alone.
 -- Assumes nothing.
 use Rattle.std.specs.Prelude.{Ok, Err, Result, is_ok, is_err}
-use Rattle.laws.specs.declared.Refusal.TheVariants.{NoRoom, BadState, NotMine}
+use Rattle.laws.specs.declared.Refusal.TheVariants.{NoRoom, BadState}
 use Rattle.laws.specs.declared.RefusedAt.{RefusedAt}
 use Rattle.laws.specs.declared.Refusal.{Refusal}
 use mathlib.Core.Path.{◌≡◌, refl, sym, ap, subst⁻¹, ◌∙◌}
@@ -20,7 +20,6 @@ use Rattle.laws.proofs.Bools.{and_left, and_right, not_false}
 use Rattle.laws.proofs.Refusals.{unmet, below}
 use Rattle.phrase.specs.Reading.{WordsRead}
 use Rattle.line.specs.Reading.{LineRead, read_line, sent}
-use Rattle.line.specs.declared.Addressed.{Addressed}
 use Rattle.line.specs.declared.Opening.{Opening}
 use Rattle.line.specs.Opening.{open_line, read_on}
 use Rattle.line.proofs.Opened.{opened_read}
@@ -172,17 +171,6 @@ module _ (l : List ℕ) where
   told_verdict (d ∷ ds) g some (Err u) e = rw e
 
 -- ---- what is told at the end
-module _ {r : LineRead} (place : ℕ) where
-  pub told_silent : (u : RefusedAt) → r ≡ Err u → record { verdict = Err u.refusal; length = place } ≡ told r place
-  told_silent u e = rw e
-
-  module _ (x : Addressed) (e : r ≡ Ok x) where
-    pub told_none : place ≡ 0 → record { verdict = Err NotMine; length = place } ≡ told r place
-    told_none z = rw (e, eq-eqb place 0 z)
-
-    pub told_some : (place ≡ 0 → ⊥) → record { verdict = ACCEPTED; length = place } ≡ told r place
-    told_some z = rw (e, ne_eqb place 0 z)
-
 told_length : (r : LineRead) (k : ℕ) → (told r k).length ≡ k
 told_length (Err e) k = refl
 told_length (Ok x) k = refl
@@ -288,9 +276,6 @@ module _ (xs : List Device) (l b : List ℕ) {g : Bool} {p : Pass} (e : g ≡ al
   where
     begins : p ≡ record { read = unless (refused xs l (length b)) (read_line l); place = 0 }
     begins = f ∙ ap (λ (t : Bool). begun (length xs) (length b) t l) e
-
-    pub begun_fits : p.place ≤ length b
-    begun_fits = rw f (omega arith)
 
     pub chained : {ys : List Device} {c : List ℕ} {q : Pass} {r : Told} → Walked l p xs ys b c q → r ≡ told q.read q.place
         → Gives (chain xs l (length b)) b r ys c

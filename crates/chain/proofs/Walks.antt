@@ -2,12 +2,12 @@
 -- Assumes nothing.
 use mathlib.Core.Path.{◌≡◌, refl, sym, ap, ◌∙◌}
 use mathlib.Core.Bool.{Bool, true, false, cond}
-use mathlib.Core.List.{List, [], ◌∷◌, ◌++◌, append-nil}
+use mathlib.Core.List.{List, [], ◌∷◌, ◌++◌}
 use Prim.Native.Nat.{ℕ, suc, ◌+◌, ◌-◌, ◌<◌, ◌≤◌}
 use native.Mathlib.Omega.{arith}
 use native.Mathlib.Numerals.{add-one}
-use lib.ListN.{length, take, drop, get_or, set, length-append, length-drop, take-append-drop, drop_of_length-le}
-use lib.Seq.{take-suc, drop-cons, take_all, length-take-le, set_at, append_snoc, get_or_at}
+use lib.ListN.{length, take, drop, get_or, set, length-append, length-drop, take-append-drop}
+use lib.Seq.{take-suc, drop-cons, length-take-le, set_at, append_snoc, get_or_at}
 use Rattle.laws.proofs.Lists.{rest}
 use Rattle.line.specs.Reading.{LineRead}
 use Rattle.device.specs.declared.Device.{Device}
@@ -101,14 +101,8 @@ module _ (l : List ℕ) (p : Pass) (b : List ℕ) (xs : List Device) where
   before : (i : ℕ) → i ≤ length xs → length (run_to i).devices ≡ i
   before i h = run_length l (take i xs) p b ∙ length-take-le i xs h
 
-  pub halfway_length : (i : ℕ) → i ≤ length xs → length (halfway i) ≡ length xs
-  halfway_length i h = length-append (run_to i).devices (drop i xs) ∙ rw (before i h, length-drop) (omega arith)
-
   halfway_here : (i : ℕ) (d : Device) → i < length xs → get_or (halfway i) i d ≡ get_or xs i d
   halfway_here i d h = rw (drop-cons xs i d h) (get_or_at (run_to i).devices (get_or xs i d) (drop (suc i) xs) d i (before i (omega arith)))
-
-  pub halfway_all : (i : ℕ) → length xs ≤ i → halfway i ≡ (run l xs p b).devices
-  halfway_all i h = rw (drop_of_length-le xs h, take_all i xs h) (append-nil (run l xs p b).devices)
 
   -- a turn after i turns
   module _ (i : ℕ) (d : Device) (h : i < length xs) where
