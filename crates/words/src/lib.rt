@@ -14,28 +14,33 @@ pub struct Word {
     pub end: usize,
 }
 
+// The bytes from at on.
+fn rest(s: &[u8], at: usize) -> &[u8]
+    ensures { result.now ≡ drop at s.now }
+{
+    s.get(at..).unwrap_or(&[])
+}
+
 // The first place from at on that has no space.
 pub fn start_of(s: &[u8], at: usize) -> usize
     ensures { result ≡ start_of s.now at }
 {
-    for start in at..s.len() {
-        if s[start] != b' ' {
-            return start;
-        }
-    }
-    at.max(s.len())
+    let behind = rest(s, at);
+    at + behind
+        .iter()
+        .position(|byte| *byte != b' ')
+        .unwrap_or(behind.len())
 }
 
 // The first place from at on that has a space, or the end.
 fn word_end(s: &[u8], at: usize) -> usize
     ensures { result ≡ end_of s.now at }
 {
-    for end in at..s.len() {
-        if s[end] == b' ' {
-            return end;
-        }
-    }
-    at.max(s.len())
+    let word = rest(s, at);
+    at + word
+        .iter()
+        .position(|byte| *byte == b' ')
+        .unwrap_or(word.len())
 }
 
 // The first word from at on.

@@ -1,20 +1,16 @@
--- Invariant: what is passed from end on, behind end, ends where what is passed from at on ends.
-use mathlib.Core.Path.{◌≡◌, sym, ◌∙◌}
-use native.Mathlib.Omega.{arith}
+-- Where the library finds the first byte that ends what is passed, or the end.
+use mathlib.Core.Bool.{not}
+use Rattle.std.proofs.Common.{rules, tests}
+use Rattle.std.proofs.lemmas.Iterator.{YieldsList-from_slice}
+use Rattle.std.proofs.lemmas.Iterator.Search.{position_from_yields_List}
 use Rattle.words.specs.Cutting.{no_space}
-use Rattle.laws.proofs.Span.{passed, stopped, ended}
-use Rattle.words.proofs.Space.{other_yes, other_not}
+use Rattle.laws.proofs.Span.{stop_is}
 use Rattle.words.proofs.word_end.Goals as goal
 
-pub returns-then-s-end-eq32 : goal.returns-then-s-end-eq32
-returns-then-s-end-eq32 c =
-    sym (stopped no_space _ _ c.loop-end-test.true (other_not _ c.if-s-end-eq32.true)) ∙ c.loop-end.invariant.1
-
-pub loop-end-preserved : goal.loop-end-preserved
-loop-end-preserved c =
-    (omega arith, passed no_space _ _ c.loop-end-test.true (other_yes _ c.if-s-end-eq32.false) ∙ c.loop-end.invariant.1)
-
 pub returns : goal.returns
+unfolding no_space
 returns c =
-    let at_end : c.max.result ≡ c.loop-end.end = omega arith in
-    at_end ∙ sym (ended no_space _ _ (omega arith)) ∙ c.loop-end.invariant.1
+    let s = c.rest-word.result.now in
+    let stop = position_from_yields_List (λ x. not (no_space x)) _ _ c.position.result c.position.ensures.ran
+    (YieldsList-from_slice s cc) (λ x b q k. search (rules, tests)) in
+    rw (c.unwrap_or.ensures, stop, stop_is no_space s, c.rest-word.ensures)

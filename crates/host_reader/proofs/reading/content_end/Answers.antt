@@ -4,7 +4,7 @@ use Rattle.std.proofs.Common.{rules, tests}
 use Rattle.std.proofs.lemmas.Iterator.{YieldsList-from_slice}
 use Rattle.std.proofs.lemmas.Iterator.Search.{position_from_yields_List}
 use Rattle.host_reader.specs.Reading.{data_byte}
-use Rattle.host_reader.proofs.Walks.{stop_is}
+use Rattle.laws.proofs.Span.{stop_is}
 use Rattle.host_reader.proofs.reading.content_end.Goals as goal
 
 pub returns : goal.returns
