@@ -84,10 +84,8 @@ fn addressee_of(
     requires { AddressPlaces start a }
     ensures { result ≡ addressee start a at end }
 {
-    match a {
-        Err(p) => Err(Refusal::BadAddress.at(start + p)),
-        Ok(n) => Ok(Opening::To(n, at, end)),
-    }
+    let n = a.map_err(|p| Refusal::BadAddress.at(start + p))?;
+    Ok(Opening::To(n, at, end))
 }
 
 // The address of a line up to the end of its content.

@@ -68,14 +68,15 @@ impl Numbered {
     fn with(self, n: Number) -> Command
         ensures { result ≡ numberedBy self n }
     {
+        let position = Position::from(n);
         match self {
-            Numbered::MoveAbs => Command::OfAxes(AxisCommand::MoveTo(Target::Abs(Position::from(n)))),
-            Numbered::MoveRel => Command::OfAxes(AxisCommand::MoveTo(Target::Rel(Position::from(n)))),
+            Numbered::MoveAbs => Command::OfAxes(AxisCommand::MoveTo(Target::Abs(position))),
+            Numbered::MoveRel => Command::OfAxes(AxisCommand::MoveTo(Target::Rel(position))),
             Numbered::MoveVel => Command::OfAxes(AxisCommand::MoveVel(Speed::from(n))),
             Numbered::MoveStored => Command::OfAxes(AxisCommand::MoveTo(Target::Stored(n))),
             Numbered::SetTo(s) => set_command(s, n),
             Numbered::Store => Command::OfAxes(AxisCommand::Storepos(n)),
-            Numbered::StoreAt(m) => Command::OfAxes(AxisCommand::StoreposAt(m, Position::from(n))),
+            Numbered::StoreAt(m) => Command::OfAxes(AxisCommand::StoreposAt(m, position)),
             Numbered::StoreCurrent => Command::OfAxes(AxisCommand::StoreposCurrent(n)),
         }
     }
@@ -85,13 +86,11 @@ impl Numbered {
         requires { Places start n }
         ensures { result ≡ made self start n }
     {
-        match n {
-            Ok(v) => Ok(Worded {
-                command: self.with(v),
-                from: 0,
-            }),
-            Err(p) => Err(Refusal::BadData.at(start + p)),
-        }
+        let v = n.map_err(|p| Refusal::BadData.at(start + p))?;
+        Ok(Worded {
+            command: self.with(v),
+            from: 0,
+        })
     }
 }
 

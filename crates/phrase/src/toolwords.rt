@@ -24,10 +24,8 @@ fn store_at(
     requires { Places start n × Places from (number_in v.now) }
     ensures { result ≡ store_at start n (placed from v.now) }
 {
-    match n {
-        Err(p) => Err(Refusal::BadData.at(start + p)),
-        Ok(m) => Numbered::StoreAt(m).made(from, numbers::reading::read_number(v)),
-    }
+    let m = n.map_err(|p| Refusal::BadData.at(start + p))?;
+    Numbered::StoreAt(m).made(from, numbers::reading::read_number(v))
 }
 
 // The words behind `tools storepos`: N, or N P, or N current.
