@@ -18,11 +18,11 @@ pub fn printable_len(s: &[u8]) -> usize
     s.iter().take_while(|c| 32 <= **c && **c <= 126).count()
 }
 
-// Are all bytes such as a content may have: no forbidden one, and no colon?
+// Are all bytes such as a content may have: no forbidden one, and no colon? Each is looked at, which is faster than to stop.
 fn all_plain(s: &[u8]) -> bool
     ensures { result ≡ all plain s.now }
 {
-    s.iter().all(|c| 32 <= *c && *c <= 126 && *c != b':')
+    s.iter().fold(true, |ok, c| ok & ((32 <= *c) & (*c <= 126) & (*c != b':')))
 }
 
 // Is the byte CR or LF?
