@@ -1,6 +1,6 @@
 -- No answer has more bytes than room is asked for, whatever the record, the line and the buffer: nothing of it is ever cut. And the number
 -- of a silence, or of a report, has two digits at most. Assumes nothing.
-use Rattle.laws.specs.Refusals.{ACCEPTED}
+use Rattle.laws.specs.Refusals.{ACCEPTED, number_of}
 use Rattle.laws.specs.declared.Refusal.{Refusal}
 use Rattle.std.specs.Prelude.{Err, is_ok}
 use mathlib.Core.Path.{◌≡◌, refl, subst}
@@ -13,13 +13,16 @@ use lib.ListN.{length, take, drop}
 use borrow.Author.Tests.{ltb-true, ltb-false}
 use Rattle.laws.specs.declared.Refusal.TheVariants.{NoRoom}
 use Rattle.laws.proofs.Bools.{and_left}
-use Rattle.laws.proofs.Refusals.{accepted_is}
+use Rattle.laws.proofs.Each.{none, more}
+use Rattle.laws.proofs.Refusals.{accepted_is, of_rows}
 use Rattle.units.specs.Units.{place}
 use Rattle.units.specs.declared.Number.{Number}
 use Rattle.axis.specs.declared.reports.Report.{Report}
 use Rattle.axis.specs.Reports.{report_of, rests}
 use Rattle.line.specs.Reading.{LineRead, read_line, carried_by}
 use Rattle.line.proofs.Carried.{carried_of}
+use Rattle.line.proofs.EveryLine.{Reads, unframed, misaddressed, misspelt, spelled, every_line}
+use Rattle.line.proofs.EveryLine as Line
 use Rattle.device.specs.declared.Device.{Device}
 use Rattle.device.specs.declared.Outcome.{Outcome}
 use Rattle.device.specs.Good.{good}
@@ -34,7 +37,7 @@ use Rattle.carriage.specs.declared.Ruling.TheVariants.{Silent, Rejected, Accepte
 use Rattle.carriage.specs.ReadOnce.{overheard, respond_to}
 use Rattle.carriage.specs.Rulings.{rule}
 use Rattle.carriage.specs.Report.{alert_due, alert_of, told, report}
-use Rattle.carriage.specs.Step.{Stepped, silent, written, reply_of, rejected, infos_of, accepted, room_for, step}
+use Rattle.carriage.specs.Step.{Stepped, silent, written, reply_of, rejected, infos_of, accepted, unread, room_for, silence, step}
 use Rattle.carriage.proofs.Fits.{line_fits}
 use Rattle.rules.proofs.GoodStays.{good_count}
 use Rattle.carriage.proofs.AnswerRoom.{least_room}
@@ -95,7 +98,29 @@ module _ (d : Device) (l b : List ℕ) where
       subst (λ (s : Stepped). s.answer.length ≤ length b) w.answers
       (ruled_fits (fitted (rule d (overheard (good d) r (length b)))) w.fair)
 
--- ---- reports
+-- ---- the numbers of silence
+pub unread_at_most_11 : (l : List ℕ) → number_of (unread (read_line l)) ≤ 11
+unread_at_most_11 l = go (every_line l)
+  where
+    go : {r : LineRead} → Reads l r → number_of (unread r) ≤ 11
+    go (unframed Line.too_long x) = omega arith
+    go (unframed Line.not_line x) = omega arith
+    go (unframed Line.bad_sum x) = omega arith
+    go (misaddressed c h) = omega arith
+    go (misspelt c h x m) = omega arith
+    go (spelled w) = omega arith
+
+pub silence_small : (d : Device) (l b : List ℕ) → number_of (silence d (read_line l) b) ≤ 21
+unfolding silence
+silence_small d l b =
+    of_rows (λ v. number_of v ≤ 21) (omega arith)
+    (more (omega arith) (more (omega arith) (more (omega (arith, unread_at_most_11 l)) (more (omega arith) (more (omega arith) none)))))
+
+-- ---- the numbers of reports
+outcome_small : (d : Device) (axis : Number) (r : Report) → number_of (Device.report d axis r).verdict ≤ 22
+unfolding Device.report Device.report_refusal
+outcome_small d axis r = of_rows (λ v. number_of v ≤ 22) (omega arith) (more (omega arith) (more (omega arith) none))
+
 -- whether the buffer has room, and whether an alert is due
 pub by_report : (P : Stepped → Type 0) (d : Device) (axis kind last : Number) (b : List ℕ)
     → (length b < 96 → P (silent (Err NoRoom) d b))
@@ -121,6 +146,12 @@ by_report P d axis kind last b small alert quiet = go (ltb (length b) 96) refl
     go : (t : Bool) → ltb (length b) 96 ≡ t → P (cond t (silent (Err NoRoom) d b) (told r (place axis.0) o b))
     go true e = small (ltb-true (length b) 96 e)
     go false e = due (ltb-false (length b) 96 e) (alert_due r o) refl
+
+pub report_small : (d : Device) (axis kind last : Number) (b : List ℕ) → number_of (report d axis kind last b).answer.verdict ≤ 22
+unfolding silent written
+report_small d axis kind last b =
+    by_report (λ s. number_of s.answer.verdict ≤ 22) d axis kind last b (λ h. omega arith) (λ h z. omega arith)
+    (outcome_small d axis (report_of kind last))
 
 -- an alert has 18 bytes at most
 pub report_within : (d : Device) (axis kind last : Number) (b : List ℕ) → (report d axis kind last b).answer.length ≤ 18

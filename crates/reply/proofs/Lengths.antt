@@ -1,6 +1,6 @@
 -- How long a reply's data can be: values, the list of warnings, the words of an echo, a refusal's name.
 -- Assumes nothing.
-use Rattle.laws.specs.declared.Refusal.TheVariants.{NoRoom, BadState, TooLong, NotLine, BadSum, BadAddress, NotMine, BadCommand, BadData, BadAxis, DeviceOnly, NoAccess, Parked, StatusBusy, BadReport, NotReply}
+use Rattle.laws.specs.declared.Refusal.TheVariants.{NoRoom, BadState, TooLong, NotLine, BadSum, BadAddress, NotMine, BadCommand, BadData, BadAxis, DeviceOnly, NoAccess, Parked, StatusBusy, BadReport, NotReply, Other}
 use Rattle.laws.specs.declared.Refusal.{Refusal}
 use mathlib.Core.Path.{◌≡◌, refl, sym, subst}
 use mathlib.Core.Logic.{⊎_elim}
@@ -160,3 +160,4 @@ refusal_length Parked = leb→le 6 10 tt
 refusal_length StatusBusy = leb→le 10 10 tt
 refusal_length BadReport = leb→le 0 10 tt
 refusal_length NotReply = leb→le 0 10 tt
+refusal_length (Other n) = leb→le 0 10 tt

@@ -8,6 +8,7 @@ use Prim.Native.Nat.{ℕ, suc, ◌+◌, ◌*◌, ◌≤◌, ◌<◌}
 use native.Mathlib.Omega.{arith}
 use lib.Dec.{eqb}
 use lib.ListN.{length, take, replicate, length-append, length-take}
+use borrow.Author.Tests.{eqb-true}
 use Rattle.laws.specs.Text.{LF, text}
 use Rattle.laws.proofs.Each.{Each, none, more}
 use Rattle.words.specs.Cutting.{grow}
@@ -20,10 +21,13 @@ use Rattle.device.specs.declared.Device.{Device}
 use Rattle.device.specs.Good.{good}
 use Rattle.reply.specs.Help.{longest_answer}
 use Rattle.reply.specs.Reply.{longest_reply}
-use Rattle.carriage.specs.Step.{Stepped, silent, not_mine, room_for, step, refused_at, words_room}
+use Rattle.reply.specs.Data.{refusal_name}
+use Rattle.carriage.specs.Step.{Stepped, silent, written, rejected, accepted, not_mine, room_for, step, refused_at, words_room}
 use Rattle.carriage.specs.Report.{report}
 use Rattle.carriage.proofs.AnswerRoom.{command_room_lem, least_room, most_room}
-use Rattle.carriage.proofs.Room.{answer_within, report_within}
+use Rattle.carriage.proofs.Demands.{every_answer}
+use Rattle.carriage.proofs.Room.{answer_within, silence_small, report_small, report_within}
+use Rattle.carriage.proofs.SilentNumbers.{reply_some}
 use Rattle.std.specs.Prelude.{Option, None, Some, Ok, Err}
 use Rattle.input.specs.declared.reports.MotorReport.{MotorReport}
 use Rattle.input.specs.ReportLines.{read_report}
@@ -34,7 +38,6 @@ use Rattle.session.proofs.HelpLines.{help_long}
 use Rattle.session.specs.Bench.{report_turn, line_turn, turn, shown, turns, bench_device, bench}
 use Rattle.phrase.specs.Reading.{worded, WordsRead}
 use Rattle.laws.specs.Refusals.{number_of}
-use Rattle.laws.proofs.Refusals.{two_digits}
 
 -- ---- a report: its number, and its alert
 report_short : (d : Device) (r : Option MotorReport) → length (report_turn d r).prints ≤ 28
@@ -42,10 +45,18 @@ unfolding report_turn reported text silent
 report_short d None = rw length-append (omega (arith, told_short (text "report ") 22 (omega arith) (omega arith)))
 report_short d (Some r) =
     let s = report d r.axis r.kind r.last (replicate 96 0) in
-    let name = told_short (text "report ") (number_of s.answer.verdict) (omega arith) (omega (arith, two_digits s.answer.verdict)) in
+    let small = report_small d r.axis r.kind r.last (replicate 96 0) in
+    let name = told_short (text "report ") (number_of s.answer.verdict) (omega arith) (omega (arith, small)) in
     rw (length-append, length-take) (omega (arith, name, report_within d r.axis r.kind r.last (replicate 96 0)))
 
 -- ---- a line
+silent_small : (d : Device) (l b : List ℕ) → (step d l b).answer.length ≡ 0 → number_of (step d l b).answer.verdict < 100
+unfolding silent rejected accepted written
+silent_small d l b =
+    every_answer (λ s. s.answer.length ≡ 0 → number_of s.answer.verdict < 100) d l b (λ h. omega (arith, silence_small d l b))
+    (λ n k g h. absurd (reply_some d k false (refusal_name n) h))
+    (λ k c es g e w h. omega arith)
+
 line_within : (d : Device) (p : List ℕ) → length (line_turn d p).prints ≤ room_for (read_line p)
 unfolding line_turn answered text
 line_within d p = go (eqb s.answer.length 0) refl
@@ -56,8 +67,8 @@ line_within d p = go (eqb s.answer.length 0) refl
     go : (t : Bool) → eqb s.answer.length 0 ≡ t
         → length (cond t (told (text "silent ") (number_of s.answer.verdict)) (take s.answer.length s.buffer)) ≤ room_for (read_line p)
     go true e =
-        let small = told_short (text "silent ") (number_of s.answer.verdict) (omega arith) (omega (arith, two_digits s.answer.verdict)) in
-        omega (arith, small, least_room (read_line p))
+        let small = silent_small d p (replicate longest_answer 0) (eqb-true s.answer.length 0 e) in
+        omega (arith, told_short (text "silent ") (number_of s.answer.verdict) (omega arith) small, least_room (read_line p))
     go false e = rw length-take (omega (arith, answer_within d p (replicate longest_answer 0)))
 
 -- the room that is asked for a line is 96 bytes for each of its own: one that is answered with info lines is long enough
