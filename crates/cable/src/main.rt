@@ -23,8 +23,11 @@ fn answer(rt: &impl Print, c: Cable, part: &[u8]) -> io::Result<Cable>
 
 fn answer_each(rt: &impl Print, first: Cable, input: &[u8]) -> io::Result<()> {
     let mut c = first;
-    for part in input.split_inclusive(|byte| *byte == b'\n') {
-        c = answer(rt, c, part)?;
+    let mut at: usize = 0;
+    while at < input.len() {
+        let end = input::parts::part_end(input, at);
+        c = answer(rt, c, &input[at..end])?;
+        at = end;
     }
     Ok(())
 }

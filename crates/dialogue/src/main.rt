@@ -91,13 +91,20 @@ fn say_message(rt: &impl Print, m: Message, line: &[u8]) -> io::Result<()> {
     print!(rt; "\n")
 }
 
+fn say_read(rt: &impl Print, line: &[u8]) -> io::Result<()> {
+    match host_reader::reading::read_message(line) {
+        Some(m) => say_message(rt, m, line),
+        None => print!(rt; " => no message\n"),
+    }
+}
+
 // What is sent, message by message: each ends with its LF.
 fn say_sent(rt: &impl Print, sent: &[u8]) -> io::Result<()> {
-    for line in sent.split_inclusive(|byte| *byte == b'\n') {
-        match host_reader::reading::read_message(line) {
-            Some(m) => say_message(rt, m, line)?,
-            None => print!(rt; " => no message\n")?,
-        }
+    let mut at: usize = 0;
+    while at < sent.len() {
+        let end = input::parts::part_end(sent, at);
+        say_read(rt, &sent[at..end])?;
+        at = end;
     }
     Ok(())
 }

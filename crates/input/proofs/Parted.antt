@@ -3,7 +3,7 @@
 use mathlib.Core.Path.{◌≡◌, refl, sym, ap, ◌∙◌}
 use mathlib.Core.Bool.{Bool, true, false, cond}
 use mathlib.Core.List.{List, [], ◌∷◌, ◌++◌}
-use Prim.Native.Nat.{ℕ, zero, suc, min, ◌+◌, ◌<◌}
+use Prim.Native.Nat.{ℕ, zero, suc, min, ◌+◌, ◌≤◌, ◌<◌}
 use native.Mathlib.Omega.{arith}
 use lib.Dec.{eqb, leb-suc-suc}
 use lib.ListN.{length, take, drop, length-drop}
@@ -70,6 +70,26 @@ module _ (s : List ℕ) (at : ℕ) where
   part_whole e =
       let whole = ap (λ o. part_of o (length (drop at s))) e ∙ found (drop at s) in
       omega (arith, whole, length-drop at s)
+
+-- ---- the part from a place inside
+part_le : (s : List ℕ) → first_part s ≤ length s
+unfolding first_part
+part_le [] = omega arith
+part_le (c ∷ s) = go (eqb c LF) (part_le s)
+  where
+    go : (b : Bool) → first_part s ≤ length s → cond b 1 (suc (first_part s)) ≤ suc (length s)
+    go true ih = omega arith
+    go false ih = omega arith
+
+module _ (s : List ℕ) (at : ℕ) {e : ℕ} (h : at < length s) (q : e ≡ at + first_part (drop at s)) where
+  left : 0 < length (drop at s)
+  left = rw length-drop (omega arith)
+
+  pub part_past : at < e
+  part_past = omega (arith, (parts_more (drop at s) left).0)
+
+  pub part_inside : e ≤ length s
+  part_inside = omega (arith, part_le (drop at s), length-drop at s)
 
 -- ---- the parts, as the library's `split_inclusive` gives them
 -- i is the place of the first LF, or the length
