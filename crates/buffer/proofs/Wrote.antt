@@ -5,9 +5,10 @@ use mathlib.Core.Logic.{⊎_elim}
 use mathlib.Core.List.{List, [], ◌∷◌, ◌++◌, append-nil, append_assoc}
 use Prim.Native.Nat.{ℕ, suc, ◌+◌, ◌-◌, ◌≤◌, ◌<◌, min, max}
 use native.Mathlib.Nat.{suc-add, add-suc, add-zero}
+use native.Mathlib.Numerals.{add-one}
 use native.Mathlib.Omega.{arith}
-use lib.ListN.{length, set, take, drop, length-append, length-take, length-drop, length-set, take-append-drop, drop_of_length-le}
-use lib.Seq.{take_at, take_all, drop-drop, take-suc-set, drop-set-lt, sets, length-sets, set_out}
+use lib.ListN.{length, get_or, set, take, drop, length-append, length-take, length-drop, length-set, take-append-drop, drop_of_length-le}
+use lib.Seq.{take-suc, take_at, take_all, drop-drop, take-suc-set, drop-set-lt, sets, length-sets, set_out}
 use Rattle.laws.proofs.Answers.{one_answer}
 use Rattle.laws.proofs.Lists.{rest}
 use Rattle.laws.proofs.Order.{lt_or_le}
@@ -84,6 +85,15 @@ pub ◌▸◌ : {b : List ℕ} {at : ℕ} {s c : List ℕ} {r : ℕ} {t d : List
 -- nothing written
 pub wrote_none : (b : List ℕ) (at : ℕ) → Wrote b at [] b at
 wrote_none b at = record { bytes = sets_laid [] b at; place = rw length-take (omega arith) }
+
+-- a turn of a loop that stores a text byte by byte where there is room: each byte has its place
+pub wrote_next : {b : List ℕ} {at : ℕ} {c : List ℕ} (t : List ℕ) (i : ℕ) → i < length t → at + i < length c
+    → Wrote b at (take i t) c (at + i) → Wrote b at (take (i + 1) t) (set c (at + i) (get_or t i 0)) (at + (i + 1))
+wrote_next {b} {at} {c} t i h k v =
+    let e : at + i + 1 ≡ at + (i + 1) = omega arith in
+    let w : Wrote b at (take (i + 1) t) (set c (at + i) (get_or t i 0)) (at + i + 1) =
+    rw (add-one, take-suc t i 0 h) (v ▸ wrote_byte c (at + i) (get_or t i 0) k) in
+    rw e at w
 
 -- where there is room, the whole text stands there
 pub wrote_room : {b : List ℕ} {at : ℕ} {t c : List ℕ} {r : ℕ} → Wrote b at t c r → at + length t ≤ length b

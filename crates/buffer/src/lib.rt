@@ -20,8 +20,30 @@ pub fn put_byte(buf: &mut [u8], at: usize, b: u8) -> usize
     at + 1
 }
 
-// As much of a text as has a place.
+// Asks for room once.
 pub fn put_text(buf: &mut [u8], at: usize, text: &[u8]) -> usize
+    ensures { Wrote buf.old at text.now buf.new result }
+{
+    if at <= buf.len() && text.len() <= buf.len() - at {
+        put_whole(buf, at, text)
+    } else {
+        put_front(buf, at, text)
+    }
+}
+
+// A text that has room, byte by byte: most have some few bytes, and a literal's are stored at once.
+fn put_whole(buf: &mut [u8], at: usize, text: &[u8]) -> usize
+    requires { at + length text.now ≤ length buf.old }
+    ensures { Wrote buf.old at text.now buf.new result }
+{
+    for i in 0..text.len() {
+        buf[at + i] = text[i];
+    }
+    at + text.len()
+}
+
+// As much of a text as has a place.
+fn put_front(buf: &mut [u8], at: usize, text: &[u8]) -> usize
     ensures { Wrote buf.old at text.now buf.new result }
 {
     if at < buf.len() {

@@ -30,16 +30,10 @@ pub answer_room : longest_reply * suc (length help_texts) ≡ longest_answer
 unfolding help_texts
 answer_room = refl
 
--- a text behind a space, or nothing
-pub text_empty : (t : List ℕ) → length t ≡ 0 → trail (text_words t) ≡ []
+-- beyond the last text nothing is written
+pub text_none : (i : ℕ) → 11 ≤ i → [] ≡ trail (text_words (help_text i))
 unfolding trail
-text_empty [] h = refl
-text_empty (c ∷ t) h = absurd (omega arith)
-
-pub text_some : (t : List ℕ) → (length t ≡ 0 → ⊥) → trail (text_words t) ≡ 32 ∷ t
-unfolding trail
-text_some [] h = absurd (h refl)
-text_some (c ∷ t) h = append-nil (32 ∷ c ∷ t)
+text_none i h = rw (← beyond help_texts i [] (rw texts_eleven h)) refl
 
 -- ---- each text is short, so that its line fits: a test that antt computes
 abbrev short : List ℕ → Bool

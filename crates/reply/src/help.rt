@@ -11,34 +11,22 @@ use buffer::put_word;
 // `help commands` has as many info lines.
 pub const HELP_TEXTS: usize = 11;
 
-// The text at a place from 0; nothing where there are not so many.
-#[tactic(auto, unfolding(laws::specs::Text::text, crate::specs::Help::help_texts))]
-fn help_text(place: usize) -> &'static [u8]
-    ensures { result.now ≡ help_text place }
-{
-    match place {
-        0 => b"home",
-        1 => b"stop",
-        2 => b"estop",
-        3 => b"move",
-        4 => b"get",
-        5 => b"set",
-        6 => b"tools storepos",
-        7 => b"warnings",
-        8 => b"tools parking",
-        9 => b"tools echo",
-        10 => b"help commands",
-        _ => b"",
-    }
-}
-
-// That text behind a space, if there is one.
+// The text at a place from 0, behind a space; nothing where there are not so many.
 pub(crate) fn put_help(buf: &mut [u8], at: usize, place: usize) -> usize
     ensures { Wrote buf.old at (trail (text_words (help_text place))) buf.new result }
 {
-    let text = help_text(place);
-    if text.is_empty() {
-        return at;
+    match place {
+        0 => put_word(buf, at, b"home"),
+        1 => put_word(buf, at, b"stop"),
+        2 => put_word(buf, at, b"estop"),
+        3 => put_word(buf, at, b"move"),
+        4 => put_word(buf, at, b"get"),
+        5 => put_word(buf, at, b"set"),
+        6 => put_word(buf, at, b"tools storepos"),
+        7 => put_word(buf, at, b"warnings"),
+        8 => put_word(buf, at, b"tools parking"),
+        9 => put_word(buf, at, b"tools echo"),
+        10 => put_word(buf, at, b"help commands"),
+        _ => at,
     }
-    put_word(buf, at, text)
 }
