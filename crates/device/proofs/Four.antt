@@ -1,13 +1,15 @@
 -- Some neighbouring places of four, place by place: a place that is not one of them counts for nothing.
 -- Assumes that there are four places, which every device record has.
-use mathlib.Core.Path.{◌≡◌, refl}
+use mathlib.Core.Path.{◌≡◌, refl, sym}
 use mathlib.Core.Bool.{Bool, true, false, cond, ◌&&◌, ◌||◌}
 use mathlib.Core.List.{List, [], ◌∷◌}
 use Prim.Native.Nat.{ℕ, zero, suc, ◌+◌, ◌≤◌}
 use native.Mathlib.Omega.{arith}
 use lib.ListN.{length, get_or, take, drop}
-use Rattle.std.specs.List.{list_all, list_any, enumerate_from, fold as fold_left}
 use Rattle.laws.specs.Lists.{fold, all, any}
+use Rattle.laws.proofs.Bools.{and_true, or_false}
+use Rattle.flags.specs.Flags.{bits, mask, either, union}
+use Rattle.flags.proofs.Unions.{bits_union, union_start}
 use Rattle.device.specs.declared.walks.Stretch.{Stretch}
 use Rattle.device.specs.Each.{covers}
 
@@ -58,20 +60,14 @@ module _ {X : Type 0} (f : X → Bool) where
   any_keep true x xs = refl
   any_keep false x xs = refl
 
-  any_none : any f [] ≡ false
-  unfolding fold
-  any_none = refl
-
   -- whether some place of the stretch passes, from whether each place is one of them and passes
-  pub any_stretch : (xs : List X) → length xs ≡ 4 → (p : Stretch) → p.from + p.many ≤ 4
-      → list_any (λ (e : ℕ × X). covers p e.0 && f e.1) (enumerate_from 0 xs) ≡ any f (take p.many (drop p.from xs))
-  any_stretch [] e p h = absurd (omega arith)
-  any_stretch (a ∷ []) e p h = absurd (omega arith)
-  any_stretch (a ∷ b ∷ []) e p h = absurd (omega arith)
-  any_stretch (a ∷ b ∷ c ∷ []) e p h = absurd (omega arith)
-  any_stretch (a ∷ b ∷ c ∷ d ∷ []) e p h =
-      rw (stretch_kept (a ∷ b ∷ c ∷ d ∷ []) a refl p h, any_keep, any_keep, any_keep, any_keep, any_none)
-  any_stretch (a ∷ b ∷ c ∷ d ∷ x ∷ xs) e p h = absurd (omega arith)
+  pub any_stretch : (xs : List X) (z : X) → length xs ≡ 4 → (p : Stretch) → p.from + p.many ≤ 4 → {a b c d : Bool}
+      → a ≡ (covers p 0 && f (get_or xs 0 z)) → b ≡ (covers p 1 && f (get_or xs 1 z)) → c ≡ (covers p 2 && f (get_or xs 2 z))
+      → d ≡ (covers p 3 && f (get_or xs 3 z))
+      → (a || (b || (c || d))) ≡ any f (take p.many (drop p.from xs))
+  unfolding fold
+  any_stretch xs z four p inside ea eb ec ed =
+      rw (ea, eb, ec, ed, stretch_kept xs z four p inside, any_keep, any_keep, any_keep, any_keep, or_false)
 
 module _ {X : Type 0} (f : X → Bool) where
   all_keep : (b : Bool) (x : X) (xs : List X) → all f (keep b x xs) ≡ (cond b (f x) true && all f xs)
@@ -79,32 +75,44 @@ module _ {X : Type 0} (f : X → Bool) where
   all_keep true x xs = refl
   all_keep false x xs = refl
 
-  all_none : all f [] ≡ true
-  unfolding fold
-  all_none = refl
-
   -- whether every place of the stretch passes, from whether each place passes or is none of them
-  pub all_stretch : (xs : List X) → length xs ≡ 4 → (p : Stretch) → p.from + p.many ≤ 4
-      → list_all (λ (e : ℕ × X). cond (covers p e.0) (f e.1) true) (enumerate_from 0 xs) ≡ all f (take p.many (drop p.from xs))
-  all_stretch [] e p h = absurd (omega arith)
-  all_stretch (a ∷ []) e p h = absurd (omega arith)
-  all_stretch (a ∷ b ∷ []) e p h = absurd (omega arith)
-  all_stretch (a ∷ b ∷ c ∷ []) e p h = absurd (omega arith)
-  all_stretch (a ∷ b ∷ c ∷ d ∷ []) e p h =
-      rw (stretch_kept (a ∷ b ∷ c ∷ d ∷ []) a refl p h, all_keep, all_keep, all_keep, all_keep, all_none)
-  all_stretch (a ∷ b ∷ c ∷ d ∷ x ∷ xs) e p h = absurd (omega arith)
+  pub all_stretch : (xs : List X) (z : X) → length xs ≡ 4 → (p : Stretch) → p.from + p.many ≤ 4 → {a b c d : Bool}
+      → a ≡ cond (covers p 0) (f (get_or xs 0 z)) true → b ≡ cond (covers p 1) (f (get_or xs 1 z)) true
+      → c ≡ cond (covers p 2) (f (get_or xs 2 z)) true → d ≡ cond (covers p 3) (f (get_or xs 3 z)) true
+      → (a && (b && (c && d))) ≡ all f (take p.many (drop p.from xs))
+  unfolding fold
+  all_stretch xs z four p inside ea eb ec ed =
+      rw (ea, eb, ec, ed, stretch_kept xs z four p inside, all_keep, all_keep, all_keep, all_keep, and_true)
 
-module _ {X W : Type 0} (join : W → X → W) where
-  fold_keep : (b : Bool) (w : W) (x : X) (xs : List X) → fold_left join (cond b (join w x) w) xs ≡ fold_left join w (keep b x xs)
-  fold_keep true w x xs = refl
-  fold_keep false w x xs = refl
+-- f gives eight flags
+module _ {X : Type 0} (f : X → List Bool) (eight : (x : X) → bits 8 (mask (f x)) ≡ f x) where
+  union_keep : (b : Bool) (x : X) (xs : List X) → union f (keep b x xs) ≡ either (cond b (f x) (bits 8 0)) (union f xs)
+  unfolding fold
+  union_keep true x xs = refl
+  union_keep false x xs = sym (union_start f xs)
 
-  pub fold_stretch : (xs : List X) (w : W) → length xs ≡ 4 → (p : Stretch) → p.from + p.many ≤ 4
-      → fold_left (λ (v : W) (e : ℕ × X). cond (covers p e.0) (join v e.1) v) w (enumerate_from 0 xs) ≡ fold_left join w (take p.many (drop p.from xs))
-  fold_stretch [] w e p h = absurd (omega arith)
-  fold_stretch (a ∷ []) w e p h = absurd (omega arith)
-  fold_stretch (a ∷ b ∷ []) w e p h = absurd (omega arith)
-  fold_stretch (a ∷ b ∷ c ∷ []) w e p h = absurd (omega arith)
-  fold_stretch (a ∷ b ∷ c ∷ d ∷ []) w e p h =
-      rw (stretch_kept (a ∷ b ∷ c ∷ d ∷ []) a refl p h, ← fold_keep (covers p 0), ← fold_keep (covers p 1), ← fold_keep (covers p 2), ← fold_keep (covers p 3))
-  fold_stretch (a ∷ b ∷ c ∷ d ∷ x ∷ xs) w e p h = absurd (omega arith)
+  as_bits : (b : Bool) (x : X) → cond b (f x) (bits 8 0) ≡ bits 8 (cond b (mask (f x)) 0)
+  as_bits true x = sym (eight x)
+  as_bits false x = refl
+
+  joined : (b : Bool) (x : X) (w : ℕ) {r : ℕ} (xs : List X) → r ≡ mask (either (cond b (f x) (bits 8 0)) (bits 8 w)) → bits 8 w ≡ union f xs
+      → bits 8 r ≡ union f (keep b x xs)
+  joined b x w xs e h =
+      rw (e, as_bits b x, bits_union (cond b (mask (f x)) 0) w, ← as_bits b x, h, union_keep b x xs)
+
+  none : bits 8 0 ≡ union f []
+  unfolding bits fold
+  none = refl
+
+  -- the flags of the stretch, joined from the last place to the first
+  pub union_stretch : (xs : List X) (z : X) → length xs ≡ 4 → (p : Stretch) → p.from + p.many ≤ 4 → {a b c d : ℕ}
+      → d ≡ mask (either (cond (covers p 3) (f (get_or xs 3 z)) (bits 8 0)) (bits 8 0))
+      → c ≡ mask (either (cond (covers p 2) (f (get_or xs 2 z)) (bits 8 0)) (bits 8 d))
+      → b ≡ mask (either (cond (covers p 1) (f (get_or xs 1 z)) (bits 8 0)) (bits 8 c))
+      → a ≡ mask (either (cond (covers p 0) (f (get_or xs 0 z)) (bits 8 0)) (bits 8 b))
+      → a ≡ mask (union f (take p.many (drop p.from xs)))
+  union_stretch xs z four p inside ed ec eb ea =
+      let hd = joined (covers p 3) (get_or xs 3 z) 0 [] ed none in
+      let hc = joined (covers p 2) (get_or xs 2 z) _ _ ec hd in
+      let hb = joined (covers p 1) (get_or xs 1 z) _ _ eb hc in
+      rw (ea, hb, stretch_kept xs z four p inside, union_keep (covers p 0) (get_or xs 0 z))
