@@ -1,5 +1,5 @@
 -- The cases of document 01 that are marked P, with the checksums of 02's order 1, and some beside them, as one table under one statement:
--- what came before, the line, the number and the whole reply. Over the very definitions that `step` and `report` promise, by computation.
+-- what came before, the line, the verdict and the whole reply. Over the very definitions that `step` and `report` promise, by computation.
 use Rattle.std.specs.Prelude.{Err}
 use mathlib.Core.Path.{◌≡◌, refl}
 use mathlib.Core.List.{List, [], ◌∷◌, ◌++◌, map}
@@ -99,7 +99,7 @@ cases =
     ∷ case (in_park then "/2 home\n") "/estop\n" (Err Parked) "@01 0 RJ IDLE -- PARKED:04\r\n"
     ∷ []
 
--- the number, and the bytes of the reply
+-- the verdict, and the bytes of the reply
 pub record Said : Type 0 where
   pub verdict : Verdict
   pub bytes : List ℕ

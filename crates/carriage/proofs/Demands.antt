@@ -157,7 +157,7 @@ abbrev pub infos_for : Device → WordsRead → Verdict → List (List ℕ)
 infos_for e (Err u) v = []
 infos_for e (Ok x) v = cond (is_ok v) (infos_of e x.command) []
 
--- what an answer s leaves in the buffer; the reply of its next record to what was read, for the axis that was sent, OK exactly where its
+-- what an answer s leaves in the buffer; the reply of its next record to what was read, for the axis that was sent, OK exactly where
 -- it is accepted; and that reply with the info lines behind it
 abbrev pub sent_in : Stepped → List ℕ
 sent_in s = take s.answer.length s.buffer

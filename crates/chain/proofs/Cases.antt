@@ -1,5 +1,5 @@
 -- Lines to the four devices of the program `cable`, two of them of one address, and to chains that are refused, as one table: the records,
--- the line, the room, the number and each place's answer. Over the very definitions that `chain` promises, by computation.
+-- the line, the room, the verdict and each place's answer. Over the very definitions that `chain` promises, by computation.
 use Rattle.std.specs.Prelude.{Err}
 use mathlib.Core.Path.{◌≡◌, refl}
 use mathlib.Core.List.{List, [], ◌∷◌, map}
@@ -116,7 +116,7 @@ cases =
     ∷ case spoilt "/help commands\n" 192 (Err BadState) []
     ∷ []
 
--- the number, and the bytes of each place's answer
+-- the verdict, and the bytes of each place's answer
 pub record Said : Type 0 where
   pub verdict : Verdict
   pub answers : List (List ℕ)

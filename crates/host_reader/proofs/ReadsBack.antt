@@ -22,7 +22,7 @@ use Rattle.reply.specs.Reply.{verdict, status, highest, body, ending, message, r
 use Rattle.reply.specs.declared.Head.{Head}
 use Rattle.reply.proofs.Texts.{highest_is, sum_wanted, sum_unwanted}
 use Rattle.reply.proofs.Room.{most_data_lem, ending_length, most_text_lem, most_text}
-use Rattle.host_reader.specs.Spelling.{Address, Axis, Verdict, ACCEPTED, rejected, Status, idle, busy, Warning, fd, fq, fs, ft, fb, fp, fe, wr, Data, End, bare, summed, Says}
+use Rattle.host_reader.specs.Spelling.{Address, Axis, Verdict, accepted, rejected, Status, idle, busy, Warning, fd, fq, fs, ft, fb, fp, fe, wr, Data, End, bare, summed, Says}
 use Rattle.host_reader.specs.Spelling as spelling
 use Rattle.host_reader.specs.Reading.{field, data_place, text_place, front_end, read_message}
 use Rattle.host_reader.specs.declared.Said.{Said}
@@ -80,7 +80,7 @@ axis_spelled k h =
 
 verdict_spelled : (ok : Bool) → Verdict (verdict ok) ok
 unfolding verdict
-verdict_spelled true = ACCEPTED
+verdict_spelled true = accepted
 verdict_spelled false = rejected
 
 status_spelled : (t : Bool) → Status (status t) t

@@ -26,7 +26,7 @@ use Rattle.words.specs.Find.{index}
 use Rattle.words.specs.Spelling.{WordByte}
 use Rattle.words.proofs.Index.{index_is}
 use Rattle.flags.specs.Flags.{warning_names}
-use Rattle.host_reader.specs.Spelling.{Verdict, ACCEPTED, rejected, Status, idle, busy, Warning, fd, fq, fs, ft, fb, fp, fe, wr, Bytes, gap, byte, Data, begun, End, bare, summed}
+use Rattle.host_reader.specs.Spelling.{Verdict, accepted, rejected, Status, idle, busy, Warning, fd, fq, fs, ft, fb, fp, fe, wr, Bytes, gap, byte, Data, begun, End, bare, summed}
 use Rattle.host_reader.specs.Reading.{stands, verdicts, statuses, warnings, second, data_byte, right_end}
 use Rattle.host_reader.proofs.Options.{then_is}
 
@@ -45,7 +45,7 @@ module _ (ws : List (List ℕ)) (w : List ℕ) where
 verdict_at : (k : ℕ) → k < 2 → {v : List ℕ} → v ≡ get_or verdicts k [] → Verdict v (eqb k 1)
 unfolding verdicts
 verdict_at zero h e = rw e rejected
-verdict_at (suc zero) h e = rw e ACCEPTED
+verdict_at (suc zero) h e = rw e accepted
 verdict_at (suc (suc k)) h e = absurd (omega arith)
 
 pub verdict_of : (v : List ℕ) {t : Bool} → second (index v verdicts) ≡ Some t → Verdict v t
@@ -92,7 +92,7 @@ pub record Known (w : List ℕ) (k : ℕ) (ws : List (List ℕ)) (n : ℕ) : Typ
 
 pub verdict_read : {v : List ℕ} {ok : Bool} → Verdict v ok → second (index v verdicts) ≡ Some ok
 unfolding verdicts index text same
-verdict_read ACCEPTED = refl
+verdict_read accepted = refl
 verdict_read rejected = refl
 
 pub status_read : {v : List ℕ} {t : Bool} → Status v t → second (index v statuses) ≡ Some t
@@ -114,7 +114,7 @@ warning_read wr = record { place = refl; below = omega arith }
 
 pub verdict_two : {v : List ℕ} {ok : Bool} → Verdict v ok → Two v
 unfolding text
-verdict_two ACCEPTED = two
+verdict_two accepted = two
 verdict_two rejected = two
 
 pub status_four : {v : List ℕ} {t : Bool} → Status v t → Four v
@@ -171,7 +171,7 @@ all_bytes (c ∷ s) t =
 
 pub verdict_bytes : {v : List ℕ} {ok : Bool} → Verdict v ok → Bytes v
 unfolding text fold
-verdict_bytes {v} ACCEPTED = all_bytes v refl
+verdict_bytes {v} accepted = all_bytes v refl
 verdict_bytes {v} rejected = all_bytes v refl
 
 pub status_bytes : {v : List ℕ} {t : Bool} → Status v t → Bytes v

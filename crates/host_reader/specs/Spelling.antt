@@ -20,7 +20,7 @@ pub data Axis : List ℕ → ℕ → Type 0 where
 
 -- "OK or RJ": whether it is OK
 pub data Verdict : List ℕ → Bool → Type 0 where
-  ACCEPTED : Verdict (text "OK") true
+  accepted : Verdict (text "OK") true
   rejected : Verdict (text "RJ") false
 
 -- "IDLE or BUSY": whether it is BUSY

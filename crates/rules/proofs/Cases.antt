@@ -1,5 +1,5 @@
 -- Cases of document 01 and of the settled readings, computed from the definitions: one table under one statement.
--- Each line has a record, an axis, a command, and the number that is expected.
+-- Each line has a record, an axis, a command, and the verdict that is expected.
 use Rattle.std.specs.Prelude.{Err}
 use Rattle.laws.specs.declared.Refusal.TheVariants.{BadCommand, BadData, BadAxis, DeviceOnly, NoAccess, Parked, StatusBusy, BadReport}
 use mathlib.Core.Path.{◌≡◌, refl}
@@ -104,7 +104,7 @@ unfolding cases new bare told homed homing in_park obey refusal first_of bad_axi
     axis_settings device_settings report report_of report_refusal bad_report is_axis raise raised
 all_cases = refl
 
--- and motor reports: a record, an axis, a kind, the last number, and the number that is expected
+-- and motor reports: a record, an axis, a kind, the last number, and the verdict that is expected
 record Reported : Type 0 where
   device : Device
   axis : ℕ
