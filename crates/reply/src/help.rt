@@ -12,6 +12,7 @@ use buffer::put_word;
 pub const HELP_TEXTS: usize = 11;
 
 // The text at a place from 0, behind a space; nothing where there are not so many.
+#[tactic(auto, unfolding(laws::specs::Text::text, laws::proofs::Spaced::trail, crate::specs::Help::help_texts))]
 pub(crate) fn put_help(buf: &mut [u8], at: usize, place: usize) -> usize
     ensures { Wrote buf.old at (trail (text_words (help_text place))) buf.new result }
 {
