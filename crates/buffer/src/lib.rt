@@ -42,7 +42,9 @@ fn put_whole(buf: &mut [u8], at: usize, text: &[u8]) -> usize
     at + text.len()
 }
 
-// As much of a text as has a place.
+// As much of a text as has a place. Seldom called, and kept apart, so that the writers that call it need no frame for its call of memcpy.
+#[cold]
+#[inline(never)]
 fn put_front(buf: &mut [u8], at: usize, text: &[u8]) -> usize
     ensures { Wrote buf.old at text.now buf.new result }
 {

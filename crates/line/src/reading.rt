@@ -20,10 +20,9 @@ use numbers::digits::digit_value;
 fn begins_number(c: u8) -> bool
     ensures { result ≡ begins_number c }
 {
-    match (c, digit_value(c)) {
-        (b'+' | b'-', _) => true,
-        (_, Some(d)) => d < 10,
-        _ => false,
+    match c {
+        b'+' | b'-' => true,
+        _ => digit_value(c).is_some_and(|d| d < 10),
     }
 }
 

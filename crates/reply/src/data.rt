@@ -32,27 +32,21 @@ pub(crate) fn warning_name(place: u32) -> &'static [u8]
     }
 }
 
-// The name of a refusal that is replied; no other has one.
+// The name of a refusal that is replied; no other has one. Each is a literal, which is stored at once.
 #[tactic(auto, unfolding(laws::specs::Text::text, crate::specs::Data::refusal_name))]
-fn refusal_name(refusal: Refusal) -> &'static [u8]
-    ensures { result.now ≡ refusal_name refusal }
-{
-    match refusal {
-        Refusal::BadCommand => b"BADCOMMAND",
-        Refusal::BadData => b"BADDATA",
-        Refusal::BadAxis => b"BADAXIS",
-        Refusal::DeviceOnly => b"DEVICEONLY",
-        Refusal::NoAccess => b"NOACCESS",
-        Refusal::Parked => b"PARKED",
-        Refusal::StatusBusy => b"STATUSBUSY",
-        _ => b"",
-    }
-}
-
 pub(crate) fn put_refusal(buf: &mut [u8], at: usize, refusal: Refusal) -> usize
     ensures { Wrote buf.old at (refusal_name refusal) buf.new result }
 {
-    put_text(buf, at, refusal_name(refusal))
+    match refusal {
+        Refusal::BadCommand => put_text(buf, at, b"BADCOMMAND"),
+        Refusal::BadData => put_text(buf, at, b"BADDATA"),
+        Refusal::BadAxis => put_text(buf, at, b"BADAXIS"),
+        Refusal::DeviceOnly => put_text(buf, at, b"DEVICEONLY"),
+        Refusal::NoAccess => put_text(buf, at, b"NOACCESS"),
+        Refusal::Parked => put_text(buf, at, b"PARKED"),
+        Refusal::StatusBusy => put_text(buf, at, b"STATUSBUSY"),
+        _ => at,
+    }
 }
 
 // The number of warnings that a mask has, and their names.
